@@ -1,0 +1,1 @@
+// Tests that compute and the facts they stand for: see specs/.
