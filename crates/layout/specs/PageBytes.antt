@@ -17,7 +17,7 @@ page-size = 128
 unfoldable pub page-front : Page → List ℕ
 page-front x =
     put32 (page-kind-number (x .kind) * 1073741824 + x .level % 16 * 67108864 + length (x .entries) % 16 * 4194304 + x .right % 1024 * 4096)
-      ++ put32 (x .high) ++ put32 (x .lsn) ++ put32 (x .own % 1024 * 4194304)
+    ++ put32 (x .high) ++ put32 (x .lsn) ++ put32 (x .own % 1024 * 4194304)
 
 -- 01: "bit p says page p is used", the most significant bit first.
 unfoldable pub bits : ℕ → ℕ → List Bool → ℕ
@@ -59,9 +59,16 @@ read-marks storage-map b = tab map-bits (read-mark b)
 unfoldable pub page-fields : List ℕ → Page
 page-fields b =
     let k = page-kind (be32 b 0 / 1073741824) in
-    record
-      { kind = k; level = be32 b 0 / 67108864 % 16; right = be32 b 0 / 4096 % 1024; high = be32 b 4; lsn = be32 b 8; own = be32 b 12 / 4194304
-      ; entries = read-entries k b; marks = read-marks k b }
+    record {
+      kind = k;
+      level = be32 b 0 / 67108864 % 16;
+      right = be32 b 0 / 4096 % 1024;
+      high = be32 b 4;
+      lsn = be32 b 8;
+      own = be32 b 12 / 4194304;
+      entries = read-entries k b;
+      marks = read-marks k b;
+    }
 
 -- What stands in a page's place: a page, or bytes that are not a page's, for a spare bit or an unused entry that is not zero.
 pub data Block : Type 0 where

@@ -15,18 +15,27 @@ slot-size = 144
 unfoldable pub record-bytes : ℕ → Rec → List ℕ
 record-bytes n r =
     put32 (kind-number (r .kind) * 268435456 + length (r .entries) % 16 * 16777216 + r .level % 16 * 1048576)
-      ++ put32 n ++ put32 (r .batch) ++ put32 (r .previous)
-      ++ put32 (r .pageA % 1024 * 4194304 + r .pageB % 1024 * 4096 + r .pageC % 1024 * 4)
-      ++ put32 (r .key) ++ put32 (r .second) ++ put32 (r .right % 1024 * 4194304)
-      ++ entries-bytes (r .entries)
+    ++ put32 n ++ put32 (r .batch) ++ put32 (r .previous)
+    ++ put32 (r .pageA % 1024 * 4194304 + r .pageB % 1024 * 4096 + r .pageC % 1024 * 4)
+    ++ put32 (r .key) ++ put32 (r .second) ++ put32 (r .right % 1024 * 4194304)
+    ++ entries-bytes (r .entries)
 
 -- The fields that 144 bytes show.
 unfoldable pub record-fields : List ℕ → Rec
 record-fields b =
-    record
-      { kind = kind-of (be32 b 0 / 268435456); level = be32 b 0 / 1048576 % 16; batch = be32 b 8; previous = be32 b 12
-      ; pageA = be32 b 16 / 4194304; pageB = be32 b 16 / 4096 % 1024; pageC = be32 b 16 / 4 % 1024
-      ; key = be32 b 20; second = be32 b 24; right = be32 b 28 / 4194304; entries = tab (be32 b 0 / 16777216 % 16) (read-entry b 32) }
+    record {
+      kind = kind-of (be32 b 0 / 268435456);
+      level = be32 b 0 / 1048576 % 16;
+      batch = be32 b 8;
+      previous = be32 b 12;
+      pageA = be32 b 16 / 4194304;
+      pageB = be32 b 16 / 4096 % 1024;
+      pageC = be32 b 16 / 4 % 1024;
+      key = be32 b 20;
+      second = be32 b 24;
+      right = be32 b 28 / 4194304;
+      entries = tab (be32 b 0 / 16777216 % 16) (read-entry b 32);
+    }
 
 -- What stands in a slot: nothing, a record with its own number, or bytes that are no record's.
 pub data Slot : Type 0 where

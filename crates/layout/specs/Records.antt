@@ -12,7 +12,7 @@ pub data Kind : Type 0 where
 abbrev pub kinds : List Kind
 kinds =
     begin ∷ begin ∷ insert ∷ delete ∷ undo-insert ∷ undo-delete ∷ commit ∷ abort-mark ∷ end
-      ∷ split ∷ link ∷ unlink ∷ merge ∷ redistribute ∷ raise ∷ lower ∷ []
+    ∷ split ∷ link ∷ unlink ∷ merge ∷ redistribute ∷ raise ∷ lower ∷ []
 
 unfoldable pub kind-of : ℕ → Kind
 kind-of n = getD kinds n begin

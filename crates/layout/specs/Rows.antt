@@ -50,9 +50,9 @@ zero-unless named n = named || eqb n 0
 unfoldable pub named-only : Named → Rec → Bool
 named-only f r =
     zero-unless (f .level) (r .level) && (zero-unless (f .batch) (r .batch) && (zero-unless (f .previous) (r .previous)
-      && (zero-unless (f .a) (r .pageA) && (zero-unless (f .b) (r .pageB) && (zero-unless (f .c) (r .pageC)
-      && (zero-unless (f .key) (r .key) && (zero-unless (f .second) (r .second) && (zero-unless (f .right) (r .right)
-      && zero-unless (f .entries) (length (r .entries))))))))))
+    && (zero-unless (f .a) (r .pageA) && (zero-unless (f .b) (r .pageB) && (zero-unless (f .c) (r .pageC)
+    && (zero-unless (f .key) (r .key) && (zero-unless (f .second) (r .second) && (zero-unless (f .right) (r .right)
+    && zero-unless (f .entries) (length (r .entries))))))))))
 
 -- Entries of a level above the leaves' have nothing above the child's ten bits.
 abbrev pub level-bits : ℕ → List Entry → Bool
