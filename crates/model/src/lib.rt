@@ -1,1 +1,28 @@
-// The register as definitions, sentence by sentence of document 01: see specs/.
+// What a call answers. The numbers of document 01 for each case are in specs/Answers.antt.
+
+// 01, "Reasons that come from the input" and "Reasons that come from the state".
+pub enum Refusal {
+    Lengths,
+    PageNumber,
+    Layout,
+    Log,
+    Redo,
+    Rules,
+    Unsound,
+    NoBatch,
+    EightOpen,
+    Held,
+    Present,
+    Absent,
+    SlotsShort,
+    PagesShort,
+    AbortStopped,
+}
+
+// Done, with no, one or two numbers, or refused.
+pub enum Answer {
+    Done,
+    Number(u32),
+    Pair(u32, u32),
+    Refused(Refusal),
+}

@@ -1,0 +1,16 @@
+pub mod Change
+pub mod Fit
+pub mod Redo
+pub mod TreeRules
+pub mod Lookup
+pub mod Update
+pub mod Log
+pub mod Batches
+pub mod Pending
+pub mod Areas
+pub mod Answers
+pub mod Sound
+pub mod Calls
+pub mod Undo
+pub mod Restart
+pub mod OnBytes

@@ -1,0 +1,4 @@
+pub mod Play
+pub mod Compute
+pub mod Table
+pub mod Claim

@@ -1,0 +1,1 @@
+// The worked sessions of document 01, computed by its definitions: see specs/.
