@@ -43,14 +43,14 @@ lines-alternate (l ∷ ls) = alternates l (newest-on (l .key) ls) && lines-alter
 unfoldable pub agrees : List Page → Line → Bool
 agrees pages l = pick (l .adds) (found-value (l .value) (fetched (l .key) pages)) (not (found (fetched (l .key) pages)))
 
--- Each line after `newer` that is the newest on its key agrees.
+unfoldable pub is-line : Option Line → Bool
+is-line none = false
+is-line (some l) = true
+
+-- Each line that is the newest on its key, the lines in `newer` being newer still, agrees.
 unfoldable pub newest-agree : List Page → List Line → List Line → Bool
 newest-agree pages newer [] = true
-newest-agree pages newer (l ∷ ls) = pick (found-line (newest-on (l .key) newer)) true (agrees pages l) && newest-agree pages (newer ++ l ∷ []) ls
-  where
-    found-line : Option Line → Bool
-    found-line none = false
-    found-line (some m) = true
+newest-agree pages newer (l ∷ ls) = pick (is-line (newest-on (l .key) newer)) true (agrees pages l) && newest-agree pages (newer ++ l ∷ []) ls
 
 -- 01: "pending records on a key are of one batch".
 unfoldable pub apart : List Line → List Batch → Bool

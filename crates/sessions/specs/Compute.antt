@@ -17,7 +17,7 @@ use Rattle.model.specs.Lookup.{entry-or, leaf-for, fetched, first-of, or-after,
 use Rattle.model.specs.Update.{logged, emit-by, emit, highest, fresh, taking-by, emit-taking, split-page, room-by, make-room, link-child, linked-by, direct-by, direct-for, direct, raise-by, raise-root, descend-add, find-add, put-record, moved-by, join-by, join, head-or, next-entry, entry-before, link-after-by, link-after, unlink-join, join-left, join-by-entry, restock, refind, stocked-by, stocked, lower-root, step-by, descend-remove, remove-record}
 use Rattle.model.specs.Log.{is-empty, records-of, slots-from, log-area, slots-ok}
 use Rattle.model.specs.Batches.{find-batch, change-batch, drop-batch, rest-of, next-undo, written, undone, mark-set, tell, told, open-batches, follows, unmarked, undoes-line, newest-is, undoes, nothing-pending, chains, chain-step, chain-ok, row-of, desk-of, pending-count}
-use Rattle.model.specs.Pending.{holds, held, held-between, newest-on, alternates, lines-alternate, agrees, newest-agree, apart, pending-ok}
+use Rattle.model.specs.Pending.{holds, held, held-between, newest-on, alternates, lines-alternate, agrees, is-line, newest-agree, apart, pending-ok}
 use Rattle.model.specs.Areas.{page-in, block-ok, blocks-ok, store, store-all, store-some, slot-stores, log-stores}
 use Rattle.model.specs.Answers.{refusal-number, answer-numbers, first-broken}
 use Rattle.model.specs.Sound.{layouts-ok, numbers-ok, log-ok, reserve, reserves-ok, update-has-slots, update-has-pages, begin-has-slots, desk-ok, same-slot, same-slots, stored-ok, sound}
@@ -39,7 +39,7 @@ unfolding every any seek look insert-sorted remove-key same-entries ten-bits put
     unlink-join join-left join-by-entry restock refind stocked-by stocked lower-root step-by descend-remove remove-record is-empty records-of slots-from
     log-area slots-ok find-batch change-batch drop-batch rest-of next-undo written undone mark-set tell told open-batches follows unmarked undoes-line
     newest-is undoes nothing-pending chains chain-step chain-ok row-of desk-of pending-count holds held held-between newest-on alternates lines-alternate
-    agrees newest-agree apart pending-ok page-in block-ok blocks-ok store store-all store-some slot-stores log-stores refusal-number answer-numbers
+    agrees is-line newest-agree apart pending-ok page-in block-ok blocks-ok store store-all store-some slot-stores log-stores refusal-number answer-numbers
     first-broken layouts-ok numbers-ok log-ok reserve reserves-ok update-has-slots update-has-pages begin-has-slots desk-ok same-slot same-slots stored-ok
     sound run-of run-side kept-run stored-run is-none formatted-pages page-stores format-stores format-areas begin-checks begin-by begin-batch
     fetch-checks value-or fetch-by fetch-slide next-limit next-checks next-answer next-slide-by next-slide last-of insert-checks insert-by insert-slide
