@@ -53,7 +53,7 @@ commit-stored n w = any (is-commit-of n) (stable-log (stored w))
 abbrev pub ReportedIsStored : List Event → World → Type 0
 ReportedIsStored es w =
     (before later : List Event) (n : ℕ) → es ≡ before ++ ended (OnBytes.commit n) ∷ later → passes (OnBytes.commit n) (happen-all before w) ≡ true
-      → commit-stored n (happen-all es w) ≡ true
+    → commit-stored n (happen-all es w) ≡ true
 
 -- ---- want of places
 

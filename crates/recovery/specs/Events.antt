@@ -7,6 +7,7 @@ use lib.ListN.{length}
 use lib.Dec.{leb}
 use Rattle.base.specs.Tests.{pick}
 use Rattle.layout.specs.declared.Desk.{Desk}
+use Rattle.layout.specs.Entries.{top}
 use Rattle.layout.specs.Numbers.{zeros}
 use Rattle.model.specs.declared.Answer.{Answer}
 use Rattle.model.specs.Answers.{passed}
@@ -48,9 +49,12 @@ book-after false c a b = b
 unfoldable pub end-call : Call → World → World
 end-call c w =
     let r = result c w in
-    record
-      { lent = lent-after (length (r .stores)) r (w .lent); desk = r .desk
-      ; book = book-after (passed (r .answer)) c (r .answer) (w .book); since-cut = w .since-cut && not (passed (r .answer)) }
+    record {
+      lent = lent-after (length (r .stores)) r (w .lent);
+      desk = r .desk;
+      book = book-after (passed (r .answer)) c (r .answer) (w .book);
+      since-cut = w .since-cut && not (passed (r .answer));
+    }
 
 -- Its commit record is a commit's last store.
 abbrev pub all-stored : ℕ → Result → Bool
@@ -60,18 +64,27 @@ unfoldable pub cut-call : Call → ℕ → Rubble → World → World
 cut-call c budget left w =
     let r = result c w in
     let s = lent-after budget r (w .lent) in
-    record
-      { lent = record { work-pages = left .work-pages; stable-pages = s .stable-pages; work-log = left .work-log; stable-log = s .stable-log }
-      ; desk = left .desk; book = book-cut c (all-stored budget r) (w .book); since-cut = true }
+    record {
+      lent = record { work-pages = left .work-pages; stable-pages = s .stable-pages; work-log = left .work-log; stable-log = s .stable-log };
+      desk = left .desk;
+      book = book-cut c (all-stored budget r) (w .book);
+      since-cut = true;
+    }
 
 unfoldable pub grow : (work-pages stable-pages work-log stable-log : ℕ) → World → World
 grow a b c d w =
-    record
-      { lent =
-          record
-            { work-pages = w .lent .work-pages ++ zeros a; stable-pages = w .lent .stable-pages ++ zeros b
-            ; work-log = w .lent .work-log ++ zeros c; stable-log = w .lent .stable-log ++ zeros d }
-      ; desk = w .desk; book = w .book; since-cut = w .since-cut }
+    record {
+      lent =
+          record {
+            work-pages = w .lent .work-pages ++ zeros a;
+            stable-pages = w .lent .stable-pages ++ zeros b;
+            work-log = w .lent .work-log ++ zeros c;
+            stable-log = w .lent .stable-log ++ zeros d;
+          };
+      desk = w .desk;
+      book = w .book;
+      since-cut = w .since-cut;
+    }
 
 unfoldable pub happen : Event → World → World
 happen (ended c) w = end-call c w
@@ -108,9 +121,26 @@ is-restart (commit n) = false
 is-restart (abort n) = false
 is-restart (write-out p) = false
 
+-- 01: "Keys and values are 32-bit", and so is every number that a call is given.
+abbrev pub fits-32 : ℕ → Bool
+fits-32 n = leb n top
+
+unfoldable pub of-32-bits : Call → Bool
+of-32-bits format = true
+of-32-bits begin = true
+of-32-bits restart = true
+of-32-bits (fetch n k) = fits-32 n && fits-32 k
+of-32-bits (next n k) = fits-32 n && fits-32 k
+of-32-bits (insert n k v) = fits-32 n && (fits-32 k && fits-32 v)
+of-32-bits (delete n k) = fits-32 n && fits-32 k
+of-32-bits (commit n) = fits-32 n
+of-32-bits (abort n) = fits-32 n
+of-32-bits (write-out p) = fits-32 p
+
 -- "since the last finished formatting": a formatting among the calls is a refused one. "the first call after a cut to pass its checks is a
 -- restart, itself cut or not".
 pub record Granted (c : Call) (w : World) : Type 0 where
+  pub numbers : of-32-bits c ≡ true
   pub no-format : is-format c ≡ true → passes c w ≡ false
   pub restart-first : w .since-cut ≡ true → passes c w ≡ true → is-restart c ≡ true
 
