@@ -1,0 +1,117 @@
+// Bytes of a lent area: numbers read and written, parts copied, cleared and compared.
+//
+// Every store is said as a patch: the area as it was, with new bytes from one place on. Whoever writes to an area cites the laws of
+// `patch` and never a store of a single byte.
+ghost use mathlib.Core.Path.{_≡_};
+ghost use Prim.Native.Nat.{_+_, _*_, _/_, _%_, _≤_, _<_};
+ghost use lib.ListN.{length, take, drop};
+ghost use Rattle.layout.specs.Numbers.{be32, put32, same-bytes, zeros};
+ghost use Rattle.bytes.specs.Words.{part};
+ghost use Rattle.bytes.specs.Patch.{patch};
+
+// A byte as a wider number, which keeps its bound.
+fn wide(x: u8) -> u32
+    ensures { λ r. ⌜ (r ≡ x) × (r < 256) ⌝ }
+{
+    x as u32
+}
+
+pub fn get32(s: &[u8], i: usize) -> u32
+    requires { ⌜ i + 4 ≤ length (now s) ⌝ }
+    ensures { λ r. ⌜ r ≡ be32 (now (s .entry)) i ⌝ }
+{
+    wide(s[i]) * 16777216 + wide(s[i + 1]) * 65536 + wide(s[i + 2]) * 256 + wide(s[i + 3])
+}
+
+pub fn set32(s: &mut [u8], i: usize, x: u32)
+    requires { ⌜ i + 4 ≤ length (now s) ⌝ }
+    ensures { λ _. ⌜ now (s .exit) ≡ patch (now (s .entry)) i (put32 x) ⌝ }
+{
+    s[i] = (x / 16777216 % 256) as u8;
+    s[i + 1] = (x / 65536 % 256) as u8;
+    s[i + 2] = (x / 256 % 256) as u8;
+    s[i + 3] = (x % 256) as u8;
+}
+
+// All of `dst` becomes `src`, which is as long.
+pub fn copy(dst: &mut [u8], src: &[u8])
+    requires { ⌜ length (now dst) ≡ length (now src) ⌝ }
+    ensures { λ _. ⌜ now (dst .exit) ≡ now (src .entry) ⌝ }
+{
+    for i in 0..src.len() {
+        dst[i] = src[i];
+    }
+}
+
+// The `n` bytes of `src` from `b` on go to `dst` from `a` on.
+pub fn copy_part(dst: &mut [u8], a: usize, src: &[u8], b: usize, n: usize)
+    requires { ⌜ (a + n ≤ length (now dst)) × (b + n ≤ length (now src)) ⌝ }
+    ensures { λ _. ⌜ now (dst .exit) ≡ patch (now (dst .entry)) a (part (now (src .entry)) b n) ⌝ }
+{
+    copy(&mut dst[a..a + n], &src[b..b + n]);
+}
+
+pub fn zero(dst: &mut [u8])
+    ensures { λ _. ⌜ now (dst .exit) ≡ zeros (length (now (dst .entry))) ⌝ }
+{
+    for i in 0..dst.len() {
+        dst[i] = 0;
+    }
+}
+
+pub fn zero_part(dst: &mut [u8], a: usize, n: usize)
+    requires { ⌜ a + n ≤ length (now dst) ⌝ }
+    ensures { λ _. ⌜ now (dst .exit) ≡ patch (now (dst .entry)) a (zeros n) ⌝ }
+{
+    zero(&mut dst[a..a + n]);
+}
+
+// Whether two areas hold the same bytes: eight at a time, and the rest one by one.
+pub fn same(s: &[u8], t: &[u8]) -> bool
+    ensures { λ r. ⌜ r ≡ same-bytes (now (s .entry)) (now (t .entry)) ⌝ }
+{
+    let n = s.len();
+    if t.len() != n {
+        return false;
+    }
+    let mut i = 0;
+    while 8 <= n - i {
+        if get32(s, i) != get32(t, i) {
+            return false;
+        }
+        if get32(s, i + 4) != get32(t, i + 4) {
+            return false;
+        }
+        i += 8;
+    }
+    while i < n {
+        if s[i] != t[i] {
+            return false;
+        }
+        i += 1;
+    }
+    true
+}
+
+pub fn same_part(s: &[u8], a: usize, t: &[u8], b: usize, n: usize) -> bool
+    requires { ⌜ (a + n ≤ length (now s)) × (b + n ≤ length (now t)) ⌝ }
+    ensures { λ r. ⌜ r ≡ same-bytes (part (now (s .entry)) a n) (part (now (t .entry)) b n) ⌝ }
+{
+    same(&s[a..a + n], &t[b..b + n])
+}
+
+// Whether all bytes are zero, by words; the length is a multiple of four.
+pub fn is_zero(s: &[u8]) -> bool
+    requires { ⌜ length (now s) % 4 ≡ 0 ⌝ }
+    ensures { λ r. ⌜ r ≡ same-bytes (zeros (length (now (s .entry)))) (now (s .entry)) ⌝ }
+{
+    let n = s.len();
+    let mut i = 0;
+    while i < n {
+        if get32(s, i) != 0 {
+            return false;
+        }
+        i += 4;
+    }
+    true
+}

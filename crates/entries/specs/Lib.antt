@@ -1,0 +1,5 @@
+pub mod EntryBytes
+pub mod Blank
+pub mod Places
+pub mod Arrays
+pub mod Turns

@@ -1,0 +1,103 @@
+-- What depends on a page's kind, by the kind's number: 0 to 2 have entries, 3 has marks.
+use mathlib.Core.Path.{_≡_, refl, ap, sym, _∙_}
+use Prim.Native.Nat.{ℕ, zero, suc, _+_, _*_, _/_, _%_, _<_, _≤_}
+use native.Mathlib.Omega.{arith}
+use mathlib.Core.Bool.{Bool, true, false}
+use mathlib.Core.List.{List, [], _∷_}
+use lib.Dec.{lit<}
+use Rattle.layout.specs.declared.Entry.{Entry}
+use Rattle.layout.specs.Numbers.{be32, tab, read-entry, entries-bytes}
+use Rattle.layout.specs.Pages.{Page, PageKind, free, leaf, index, storage-map, page-kind, page-kind-number, map-bits}
+use Rattle.layout.specs.PageBytes.{read-entries, read-marks, read-mark, page-body, marks-bytes}
+use Rattle.entries.specs.EntryBytes.{used}
+use Rattle.page.specs.Typed.{used-entries, used-marks, map-mark}
+
+pub kind-back : (k : PageKind) → page-kind (page-kind-number k) ≡ k
+unfolding page-kind page-kind-number
+kind-back free = refl
+kind-back leaf = refl
+kind-back index = refl
+kind-back storage-map = refl
+
+pub kind-lt : (k : PageKind) → page-kind-number k < 4
+unfolding page-kind-number
+kind-lt free = lit< tt
+kind-lt leaf = lit< tt
+kind-lt index = lit< tt
+kind-lt storage-map = lit< tt
+
+pub number-node : (q : ℕ) → q < 3 → page-kind-number (page-kind q) ≡ q
+unfolding page-kind page-kind-number
+number-node zero h = refl
+number-node (suc zero) h = refl
+number-node (suc (suc zero)) h = refl
+number-node (suc (suc (suc q))) h = absurd (omega arith)
+
+pub kind-map : (q : ℕ) → 3 ≤ q → page-kind q ≡ storage-map
+unfolding page-kind
+kind-map zero h = absurd (omega arith)
+kind-map (suc zero) h = absurd (omega arith)
+kind-map (suc (suc zero)) h = absurd (omega arith)
+kind-map (suc (suc (suc q))) h = refl
+
+pub number-map : (q : ℕ) → 3 ≤ q → page-kind-number (page-kind q) ≡ 3
+unfolding page-kind-number
+number-map q h = ap page-kind-number (kind-map q h)
+
+module _ (b : List ℕ) where
+  pub read-entries-node : (q : ℕ) → q < 3 → read-entries (page-kind q) b ≡ tab (be32 b 0 / 4194304 % 16) (read-entry b 16)
+  unfolding page-kind read-entries
+  read-entries-node zero h = refl
+  read-entries-node (suc zero) h = refl
+  read-entries-node (suc (suc zero)) h = refl
+  read-entries-node (suc (suc (suc q))) h = absurd (omega arith)
+
+  pub read-entries-map : (q : ℕ) → 3 ≤ q → read-entries (page-kind q) b ≡ []
+  unfolding read-entries
+  read-entries-map q h = ap (λ (k : PageKind). read-entries k b) (kind-map q h)
+
+  pub read-marks-node : (q : ℕ) → q < 3 → read-marks (page-kind q) b ≡ []
+  unfolding page-kind read-marks
+  read-marks-node zero h = refl
+  read-marks-node (suc zero) h = refl
+  read-marks-node (suc (suc zero)) h = refl
+  read-marks-node (suc (suc (suc q))) h = absurd (omega arith)
+
+  pub read-marks-map : (q : ℕ) → 3 ≤ q → read-marks (page-kind q) b ≡ tab map-bits (read-mark b)
+  unfolding read-marks
+  read-marks-map q h = ap (λ (k : PageKind). read-marks k b) (kind-map q h)
+
+pub page-body-node : (q : ℕ) (x : Page) → q < 3 → page-body (page-kind q) x ≡ entries-bytes (x .entries)
+unfolding page-kind page-body
+page-body-node zero x h = refl
+page-body-node (suc zero) x h = refl
+page-body-node (suc (suc zero)) x h = refl
+page-body-node (suc (suc (suc q))) x h = absurd (omega arith)
+
+pub page-body-map : (q : ℕ) (x : Page) → 3 ≤ q → page-body (page-kind q) x ≡ marks-bytes (x .marks)
+unfolding page-body
+page-body-map q x h = ap (λ (k : PageKind). page-body k x) (kind-map q h)
+
+module _ (n : ℕ) (es : List Entry) where
+  pub used-entries-node : (q : ℕ) → q < 3 → used-entries (page-kind q) n es ≡ used n es
+  unfolding page-kind used-entries
+  used-entries-node zero h = refl
+  used-entries-node (suc zero) h = refl
+  used-entries-node (suc (suc zero)) h = refl
+  used-entries-node (suc (suc (suc q))) h = absurd (omega arith)
+
+  pub used-entries-map : (q : ℕ) → 3 ≤ q → used-entries (page-kind q) n es ≡ []
+  unfolding used-entries
+  used-entries-map q h = ap (λ (k : PageKind). used-entries k n es) (kind-map q h)
+
+module _ (es : List Entry) where
+  pub used-marks-node : (q : ℕ) → q < 3 → used-marks (page-kind q) es ≡ []
+  unfolding page-kind used-marks
+  used-marks-node zero h = refl
+  used-marks-node (suc zero) h = refl
+  used-marks-node (suc (suc zero)) h = refl
+  used-marks-node (suc (suc (suc q))) h = absurd (omega arith)
+
+  pub used-marks-map : (q : ℕ) → 3 ≤ q → used-marks (page-kind q) es ≡ tab map-bits (map-mark es)
+  unfolding used-marks
+  used-marks-map q h = ap (λ (k : PageKind). used-marks k es) (kind-map q h)

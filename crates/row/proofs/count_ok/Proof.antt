@@ -1,0 +1,19 @@
+-- `count_ok`: test by test.
+use borrow.Author.Needs.{needs}
+use Rattle.row.proofs.count_ok.Statement.{statement}
+use Rattle.row.proofs.count_ok.Tie as tie
+use mathlib.Core.Path.{sym, _∙_}
+use borrow.Author.Tests.{not-true, not-false, leb-true}
+use Rattle.base.specs.Tests.{clash}
+
+zero-or-requires : tie.Need-zero-or-requires
+zero-or-requires c κs = search needs
+
+returns : tie.Need-returns
+returns c = (rw (sym (c .before .zero-or .ensures) ∙ not-true _ (c .if1 .taken)), λ e. clash (sym e))
+
+returns-2 : tie.Need-returns-2
+returns-2 c = (rw (sym (c .before .zero-or .ensures) ∙ not-false _ (c .if1 .left)), λ e. leb-true (c .before .before .args .count) 14 e)
+
+pub count-ok-spec : {M : Type 1} → statement M
+count-ok-spec = tie.close (tie.spec zero-or-requires returns returns-2)

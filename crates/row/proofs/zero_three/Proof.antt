@@ -1,0 +1,47 @@
+-- `zero_three`: test by test.
+use borrow.Author.Needs.{needs}
+use Rattle.row.proofs.zero_three.Statement.{statement}
+use Rattle.row.proofs.zero_three.Tie as tie
+use mathlib.Core.Path.{sym, _∙_}
+use borrow.Author.Tests.{not-true, not-false}
+use Rattle.row.specs.Kept.{three-but}
+
+mul-zero-or : tie.Need-mul-zero-or
+mul-zero-or c = search needs
+
+zero-or-requires : tie.Need-zero-or-requires
+zero-or-requires c κs = search needs
+
+returns : tie.Need-returns
+unfolding three-but
+returns c = rw (sym (c .before .zero-or .ensures) ∙ not-true _ (c .if1 .taken))
+
+mul-zero-or-2 : tie.Need-mul-zero-or-2
+mul-zero-or-2 c = search needs
+
+zero-or-requires-2 : tie.Need-zero-or-requires-2
+zero-or-requires-2 c κs = search needs
+
+returns-2 : tie.Need-returns-2
+unfolding three-but
+returns-2 c = rw (sym (c .before .before .before .zero-or .ensures) ∙ not-false _ (c .before .before .if1 .left), sym (c .before .zero-or2 .ensures) ∙ not-true _ (c .if2 .taken))
+
+zero-or-requires-3 : tie.Need-zero-or-requires-3
+zero-or-requires-3 c κs = search needs
+
+returns-3 : tie.Need-returns-3
+unfolding three-but
+returns-3 c = c .zero-or3 .ensures ∙ rw (sym (c .before .before .before .before .zero-or .ensures) ∙ not-false _ (c .before .before .before .if1 .left), sym (c .before .before .zero-or2 .ensures) ∙ not-false _ (c .before .if2 .left))
+
+pub zero-three-spec : {M : Type 1} → statement M
+zero-three-spec =
+    tie.close
+    (tie.spec
+    mul-zero-or
+    zero-or-requires
+    returns
+    mul-zero-or-2
+    zero-or-requires-2
+    returns-2
+    zero-or-requires-3
+    returns-3)

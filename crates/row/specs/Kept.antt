@@ -1,0 +1,46 @@
+-- The row of a record as the program tests it, on its own header and entries.
+use mathlib.Core.Path.{_≡_, refl, ap, sym, _∙_}
+use Prim.Native.Nat.{ℕ, zero, suc, _+_, _*_, _/_, _%_, _<_, _≤_}
+use mathlib.Core.Bool.{Bool, true, false, _&&_, _||_}
+use mathlib.Core.List.{List, [], _∷_}
+use lib.ListN.{length}
+use lib.Dec.{eqb, leb, ltb}
+use Rattle.base.specs.Tests.{pick}
+use Rattle.layout.specs.declared.Entry.{Entry}
+use Rattle.layout.specs.Records.{Rec, Kind, kind-of, begin}
+use Rattle.layout.specs.Rows.{Named, carries, zero-unless, named-only, row-says, row, names-pages}
+use Rattle.entries.specs.EntryBytes.{used}
+use Rattle.slot.specs.declared.Header.{Header}
+use Rattle.slot.specs.declared.Header.the-variants.{Full, Empty, Broken}
+use Rattle.slot.specs.Typed.{rec-of}
+
+-- The fields that a kind names, as a bit each.
+unfoldable pub mask : Named → ℕ
+mask f =
+    pick (f .level) 512 0 + pick (f .batch) 256 0 + pick (f .previous) 128 0 + pick (f .a) 64 0 + pick (f .b) 32 0 + pick (f .c) 16 0
+    + pick (f .key) 8 0 + pick (f .second) 4 0 + pick (f .right) 2 0 + pick (f .entries) 1 0
+
+-- A full slot keeps its row; any other slot keeps none.
+unfoldable pub row-kept : Header → List Entry → Bool
+row-kept (Full kind count level own batch previous a b c key second right) es = row own (rec-of kind count level batch previous a b c key second right es)
+row-kept Empty es = false
+row-kept Broken es = false
+
+-- It names pages below n.
+unfoldable pub pages-kept : ℕ → Header → Bool
+pages-kept n (Full kind count level own batch previous a b c key second right) = ltb a n && (ltb b n && ltb c n)
+pages-kept n Empty = false
+pages-kept n Broken = false
+
+-- What a row says within itself, of the numbers that it asks.
+abbrev pub asked : (batch a key level : ℕ) → List Entry → Rec
+asked batch a key level es =
+    record { kind = begin; level = level; batch = batch; previous = 0; pageA = a; pageB = 0; pageC = 0; key = key; second = 0; right = 0; entries = es }
+
+unfoldable pub says : (kind own batch a key level : ℕ) → List Entry → Bool
+says kind own batch a key level es = row-says (kind-of kind) own (asked batch a key level es)
+
+-- "Fields not named are zero", by the bits of a row: three fields of it.
+unfoldable pub three-but : (row bit x y z : ℕ) → Bool
+three-but row bit x y z =
+    zero-unless (eqb (row / (bit * 4) % 2) 1) x && (zero-unless (eqb (row / (bit * 2) % 2) 1) y && zero-unless (eqb (row / bit % 2) 1) z)
