@@ -1,0 +1,5 @@
+pub mod Judging
+pub mod Children
+pub mod Clean
+pub mod StepFits
+pub mod NeverFive

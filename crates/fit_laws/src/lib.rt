@@ -1,0 +1,1 @@
+// What redo meets fits: see specs/.

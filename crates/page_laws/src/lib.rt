@@ -1,0 +1,1 @@
+// What restart checks of pages and rows is kept: see specs/.
