@@ -83,9 +83,9 @@ pub record Recovers (es : List Event) (w : World) : Type 0 where
   pub answers : lengths-ok (happen-all es w .lent) ≡ true → FinishesOrWants (happen-all es w)
   pub balances : lengths-ok (happen-all es w .lent) ≡ true → RedoBalances (happen-all es w)
   pub leaves : lengths-ok (happen-all es w .lent) ≡ true → LeavesAreSlides (happen-all es w)
-  pub reported : ReportedIsStored es w
+  pub reported : lengths-ok (happen-all es w .lent) ≡ true → ReportedIsStored es w
   pub wants : lengths-ok (happen-all es w .lent) ≡ true → WantsExactly (happen-all es w)
 
 -- For any list of calls, cuts and growth since the last finished formatting.
-pub Demand3 : Type 0
+unfoldable pub Demand3 : Type 0
 Demand3 = (l : Lent) (d : Desk) → lengths-ok l ≡ true → (es : List Event) → AllAllowed es (formatted l d) → Recovers es (formatted l d)

@@ -1,0 +1,1 @@
+// What the bytes of the lent areas hold: see specs/.

@@ -1,0 +1,11 @@
+pub mod Stories
+pub mod LiveAreas
+pub mod Checks
+pub mod Passing
+pub mod Questions
+pub mod Within
+pub mod Results
+pub mod Batching
+pub mod Changing
+pub mod Restarting
+pub mod Ends

@@ -1,0 +1,1 @@
+// What each call that passes its checks leaves: see specs/.

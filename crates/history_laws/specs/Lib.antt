@@ -1,0 +1,13 @@
+pub mod Start
+pub mod Core
+pub mod Notes
+pub mod Trail
+pub mod TreeTrail
+pub mod Updating
+pub mod BatchData
+pub mod Undoing
+pub mod Marking
+pub mod Settling
+pub mod History
+pub mod Growing
+pub mod Redoing

@@ -1,0 +1,7 @@
+pub mod Runs
+pub mod Held
+pub mod Settles
+pub mod Small
+pub mod PendingRule
+pub mod Batching
+pub mod Telling

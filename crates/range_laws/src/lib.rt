@@ -1,0 +1,1 @@
+// Every number of a history fits its field: see specs/.

@@ -1,0 +1,10 @@
+pub mod Lossless
+pub mod Refused
+pub mod Invariant
+pub mod AtLengths
+pub mod Keeping
+pub mod Fixing
+pub mod Passed
+pub mod Going
+pub mod Steps
+pub mod Theorem

@@ -1,0 +1,1 @@
+// DEMAND 3, proved: see specs/.

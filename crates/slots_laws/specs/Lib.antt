@@ -1,0 +1,13 @@
+pub mod Counted
+pub mod CountedUndo
+pub mod Emitting
+pub mod Reasons
+pub mod Twins
+pub mod TwinsAdd
+pub mod TwinsRemove
+pub mod TwinsSettle
+pub mod Wants
+pub mod LowLevels
+pub mod OpenFew
+pub mod Enough
+pub mod Restarting

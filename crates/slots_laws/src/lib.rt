@@ -1,0 +1,1 @@
+// How runs depend on the number of slots: see specs/.
