@@ -1,4 +1,7 @@
 // The register's values: entries of pages and log records, and the desk.
+ghost use mathlib.Core.Path.{_≡_};
+ghost use Prim.Native.Nat.{_<_};
+ghost use lib.ListN.{set};
 
 // 01: "key 32, then a leaf's value 32, or an index's spare 22 and child 10".
 pub struct Entry {
@@ -19,4 +22,36 @@ pub struct Desk {
     pub rows: [Row; 8],
     pub logged: u32,
     pub stored: u32,
+}
+
+// Each hands back the desk with one thing new.
+impl Desk {
+    pub fn with_row(mut self, i: usize, r: Row) -> Self
+        requires { ⌜ i < 8 ⌝ }
+        ensures { λ d. ⌜ d ≡ record { rows = set (self .rows) i r; logged = self .logged; stored = self .stored } ⌝ }
+    {
+        self.rows[i] = r;
+        self
+    }
+
+    pub fn with_rows(mut self, rows: [Row; 8]) -> Self
+        ensures { λ d. ⌜ d ≡ record { rows = rows; logged = self .logged; stored = self .stored } ⌝ }
+    {
+        self.rows = rows;
+        self
+    }
+
+    pub fn with_logged(mut self, n: u32) -> Self
+        ensures { λ d. ⌜ d ≡ record { rows = self .rows; logged = n; stored = self .stored } ⌝ }
+    {
+        self.logged = n;
+        self
+    }
+
+    pub fn with_stored(mut self, n: u32) -> Self
+        ensures { λ d. ⌜ d ≡ record { rows = self .rows; logged = self .logged; stored = n } ⌝ }
+    {
+        self.stored = n;
+        self
+    }
 }

@@ -1,6 +1,7 @@
 -- The row of a record as the program tests it, on its own header and entries.
 use mathlib.Core.Path.{_≡_, refl, ap, sym, _∙_}
 use Prim.Native.Nat.{ℕ, zero, suc, _+_, _*_, _/_, _%_, _<_, _≤_}
+use native.Mathlib.Omega.{arith}
 use mathlib.Core.Bool.{Bool, true, false, _&&_, _||_}
 use mathlib.Core.List.{List, [], _∷_}
 use lib.ListN.{length}
@@ -12,7 +13,8 @@ use Rattle.layout.specs.Rows.{Named, carries, zero-unless, named-only, row-says
 use Rattle.entries.specs.EntryBytes.{used}
 use Rattle.slot.specs.declared.Header.{Header}
 use Rattle.slot.specs.declared.Header.the-variants.{Full, Empty, Broken}
-use Rattle.slot.specs.Typed.{rec-of}
+use Rattle.layout.specs.RecordBytes.{Slot, empty, full, other}
+use Rattle.slot.specs.Typed.{rec-of, typed-by}
 
 -- The fields that a kind names, as a bit each.
 unfoldable pub mask : Named → ℕ
@@ -44,3 +46,24 @@ says kind own batch a key level es = row-says (kind-of kind) own (asked batch a 
 unfoldable pub three-but : (row bit x y z : ℕ) → Bool
 three-but row bit x y z =
     zero-unless (eqb (row / (bit * 4) % 2) 1) x && (zero-unless (eqb (row / (bit * 2) % 2) 1) y && zero-unless (eqb (row / bit % 2) 1) z)
+
+-- The pages of a record that a slot holds.
+unfoldable slot-pages : ℕ → Slot → Bool
+slot-pages pages empty = false
+slot-pages pages (full n r) = ltb (r .pageA) pages && (ltb (r .pageB) pages && ltb (r .pageC) pages)
+slot-pages pages (other b) = false
+
+-- Of a slot that reads as record number n, the two tests are those of the record.
+module _ (bytes : List ℕ) (es : List Entry) (n : ℕ) (r : Rec) where
+  pub row-kept-full : (h : Header) → typed-by bytes h es ≡ full n r → row-kept h es ≡ row n r
+  unfolding typed-by row-kept
+  row-kept-full (Full kind count level own batch previous a b c key second right) e = cc
+  row-kept-full Empty e = let z : _≡_ {A = ℕ} 0 1 = cc in absurd (omega arith)
+  row-kept-full Broken e = let z : _≡_ {A = ℕ} 0 1 = cc in absurd (omega arith)
+
+  pub pages-kept-full : (pages : ℕ) (h : Header) → typed-by bytes h es ≡ full n r → pages-kept pages h ≡ names-pages pages r
+  unfolding typed-by pages-kept names-pages slot-pages
+  pages-kept-full pages (Full kind count level own batch previous a b c key second right) e =
+      ap (λ (s : Slot). slot-pages pages s) e
+  pages-kept-full pages Empty e = let z : _≡_ {A = ℕ} 0 1 = cc in absurd (omega arith)
+  pages-kept-full pages Broken e = let z : _≡_ {A = ℕ} 0 1 = cc in absurd (omega arith)

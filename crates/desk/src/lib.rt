@@ -1,0 +1,144 @@
+// The desk's rows, and its 136 bytes.
+use bytes::get32;
+use bytes::set32;
+use layout::Desk;
+use layout::Row;
+ghost use mathlib.Core.Path.{_≡_};
+ghost use Prim.Native.Nat.{_+_, _*_, _≤_, _<_};
+ghost use lib.ListN.{length, set};
+ghost use Rattle.layout.specs.Numbers.{chunks};
+ghost use Rattle.layout.specs.Desks.{no-row, row-at, row-bytes, desk-bytes, read-row, read-desk};
+ghost use Rattle.bytes.specs.Patch.{patch};
+ghost use Rattle.desk.specs.Rows.{place-of, kept, without, new-row};
+
+// The place of batch b's row, or 8. Of batch 0, which is never open, that is the first row not in use: "used rows come first".
+pub fn row_place(d: Desk, b: u32) -> usize
+    ensures { λ r. ⌜ (r ≡ place-of b (d .rows)) × (r ≤ 8) ⌝ }
+{
+    let mut i = 0;
+    while i < 8 {
+        if d.rows[i].batch == b {
+            return i;
+        }
+        i += 1;
+    }
+    i
+}
+
+// The number of rows in use, which come first.
+pub fn used_rows(d: Desk) -> usize
+    ensures { λ r. ⌜ (r ≡ place-of 0 (d .rows)) × (r ≤ 8) ⌝ }
+{
+    row_place(d, 0)
+}
+
+// A row for a batch that begins, at the end of those in use. "batch = own number": its first record is its begin.
+pub fn opened(d: Desk, batch: u32) -> Desk
+    requires { ⌜ place-of 0 (d .rows) < 8 ⌝ }
+    ensures { λ r. ⌜ r ≡ record { rows = set (d .rows) (place-of 0 (d .rows)) (new-row batch); logged = d .logged; stored = d .stored } ⌝ }
+{
+    let i = used_rows(d);
+    let row = Row {
+        batch,
+        last: batch,
+        undo: 0,
+        pending: 0,
+    };
+    d.with_row(i, row)
+}
+
+fn keep(rows: [Row; 8], i: usize, j: usize) -> Row
+    requires { ⌜ j < 8 ⌝ }
+    ensures { λ r. ⌜ r ≡ kept rows i j ⌝ }
+{
+    if j < i {
+        return rows[j];
+    }
+    if j < 7 {
+        return rows[j + 1];
+    }
+    Row {
+        batch: 0,
+        last: 0,
+        undo: 0,
+        pending: 0,
+    }
+}
+
+// Row i goes, and the rest close up.
+pub fn closed(d: Desk, i: usize) -> Desk
+    ensures { λ r. ⌜ r ≡ record { rows = without (d .rows) i; logged = d .logged; stored = d .stored } ⌝ }
+{
+    let rows = d.rows;
+    let mut r = [Row {
+        batch: 0,
+        last: 0,
+        undo: 0,
+        pending: 0,
+    }; 8];
+    for j in 0..8 {
+        r[j] = keep(rows, i, j);
+    }
+    d.with_rows(r)
+}
+
+fn get_row(b: &[u8], i: usize) -> Row
+    requires { ⌜ (length (now b) ≡ 136) × (i < 8) ⌝ }
+    ensures { λ r. ⌜ r ≡ read-row (now (b .entry)) i ⌝ }
+{
+    Row {
+        batch: get32(b, 16 * i),
+        last: get32(b, 16 * i + 4),
+        undo: get32(b, 16 * i + 8),
+        pending: get32(b, 16 * i + 12),
+    }
+}
+
+pub fn get_desk(b: &[u8]) -> Desk
+    requires { ⌜ length (now b) ≡ 136 ⌝ }
+    ensures { λ r. ⌜ r ≡ read-desk (now (b .entry)) ⌝ }
+{
+    let mut rows = [Row {
+        batch: 0,
+        last: 0,
+        undo: 0,
+        pending: 0,
+    }; 8];
+    for i in 0..8 {
+        rows[i] = get_row(b, i);
+    }
+    Desk {
+        rows,
+        logged: get32(b, 128),
+        stored: get32(b, 132),
+    }
+}
+
+fn put_row(b: &mut [u8], at: usize, r: Row)
+    requires { ⌜ at + 16 ≤ length (now b) ⌝ }
+    ensures { λ _. ⌜ now (b .exit) ≡ patch (now (b .entry)) at (row-bytes r) ⌝ }
+{
+    set32(b, at, r.batch);
+    set32(b, at + 4, r.last);
+    set32(b, at + 8, r.undo);
+    set32(b, at + 12, r.pending);
+}
+
+fn put_rows(b: &mut [u8], rows: [Row; 8])
+    requires { ⌜ length (now b) ≡ 136 ⌝ }
+    ensures { λ _. ⌜ now (b .exit) ≡ patch (now (b .entry)) 0 (chunks 8 (λ i. row-bytes (row-at rows i))) ⌝ }
+{
+    for i in 0..8 {
+        put_row(b, 16 * i, rows[i]);
+    }
+}
+
+pub fn put_desk(b: &mut [u8], d: Desk)
+    requires { ⌜ length (now b) ≡ 136 ⌝ }
+    ensures { λ _. ⌜ now (b .exit) ≡ desk-bytes d ⌝ }
+{
+    let rows = d.rows;
+    put_rows(b, rows);
+    set32(b, 128, d.logged);
+    set32(b, 132, d.stored);
+}
