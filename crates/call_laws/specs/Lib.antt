@@ -9,3 +9,4 @@ pub mod Batching
 pub mod Changing
 pub mod Restarting
 pub mod Ends
+pub mod Refused

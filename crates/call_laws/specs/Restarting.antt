@@ -18,7 +18,7 @@ use Rattle.model.specs.declared.Refusal.the-variants.{Layout, Log, Redo, Rules,
 use Rattle.model.specs.Update.{Run}
 use Rattle.model.specs.TreeRules.{tree-ok, leaf-records}
 use Rattle.model.specs.Redo.{redo-fits}
-use Rattle.model.specs.Batches.{open-batches}
+use Rattle.model.specs.Batches.{open-batches, desk-of}
 use Rattle.model.specs.Pending.{pending-ok}
 use Rattle.model.specs.Areas.{Areas, log-stores}
 use Rattle.model.specs.Answers.{Outcome, Check, check, first-broken, passed, answer-numbers, refusal-number}
@@ -105,6 +105,10 @@ module _ (n m : ℕ) (least : 2 ≤ n) (most : n ≤ map-bits) (log : List Rec) 
   pub restart-stores : restarted a .stop ≡ 0 → outcome restart a d .stores ≡ log-stores (length log) (restarted a .log)
   unfolding outcome restart-areas restart-by
   restart-stores z = ap (λ o. restart-by o a .stores) (restart-refusal .0 z) ∙ ap (λ l. log-stores (length l) (restarted a .log)) (stable-log-is n m least most log h a i)
+
+  pub restart-desk : restarted a .stop ≡ 0 → outcome restart a d .desk ≡ desk-of (restarted a .log) (length (restarted a .log))
+  unfolding outcome restart-areas restart-by
+  restart-desk z = ap (λ o. restart-by o a .desk) (restart-refusal .0 z)
 
   pub restart-slots : restarted a .slots ≡ m
   restart-slots = restarted-slots a ∙ ap length (i .logged) ∙ log-area-length m log (i .fits)

@@ -69,7 +69,7 @@ log-area-length m log h =
     let c = length-replicate (m - length log) empty in
     omega arith
 
-numbers-true : (last : ℕ) (xs : List Page) → ((p : ℕ) → p < length xs → at xs p .lsn ≤ last) → numbers-ok last xs ≡ true
+pub numbers-true : (last : ℕ) (xs : List Page) → ((p : ℕ) → p < length xs → at xs p .lsn ≤ last) → numbers-ok last xs ≡ true
 unfolding numbers-ok every
 numbers-true last [] h = refl
 numbers-true last (x ∷ xs) h = and-both (le-true (x .lsn) last (h 0 (omega arith))) (numbers-true last xs (λ p l. h (suc p) (omega arith)))

@@ -89,7 +89,7 @@ unfolding every is-empty
 every-empty zero = refl
 every-empty (suc k) = every-empty k
 
-empty-slots : (pages n k : ℕ) → slots-ok pages n (replicate k empty) ≡ true
+pub empty-slots : (pages n k : ℕ) → slots-ok pages n (replicate k empty) ≡ true
 unfolding slots-ok
 empty-slots pages n zero = refl
 empty-slots pages n (suc k) = every-empty k

@@ -37,7 +37,7 @@ use Rattle.call_laws.specs.Ends.{Ends, passes-ends, restart-ends}
 use Rattle.recovery_laws.specs.Invariant.{Sure, Live, Mode, live, dead, lost, Inv}
 use Rattle.recovery_laws.specs.AtLengths.{more-pages, sure-now, live-now, image, holding, zeros-read}
 use Rattle.recovery_laws.specs.Fixing.{fixed-none}
-use Rattle.recovery_laws.specs.Refused.{asks-sound, zeros-unsound}
+use Rattle.call_laws.specs.Refused.{asks-sound, zeros-unsound}
 
 abbrev pub does : Call → World → Outcome
 does c w = outcome c (read-areas (w .lent)) (w .desk)

@@ -1,5 +1,4 @@
 pub mod Lossless
-pub mod Refused
 pub mod Invariant
 pub mod AtLengths
 pub mod Keeping

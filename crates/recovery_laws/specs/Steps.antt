@@ -26,7 +26,7 @@ use Rattle.area_laws.specs.Pages.{HoldsPages, zero-pages-bytes}
 use Rattle.area_laws.specs.Logs.{HoldsLog, empty-bytes}
 use Rattle.recovery_laws.specs.Invariant.{Sure, Live, Mode, live, dead, lost, Inv}
 use Rattle.recovery_laws.specs.Lossless.{pages-lossless, log-lossless}
-use Rattle.recovery_laws.specs.Refused.{Refused, refused, format-passes}
+use Rattle.call_laws.specs.Refused.{Refused, refused, format-passes}
 use Rattle.recovery_laws.specs.Passed.{Next, sure-same, Told, ends-in, ended-next, cut-in, cut-next}
 use Rattle.recovery_laws.specs.Going.{does, Going, going}
 

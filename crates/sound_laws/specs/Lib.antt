@@ -1,0 +1,10 @@
+pub mod FromSound
+pub mod ToSound
+pub mod Counting
+pub mod StoredPart
+pub mod AbortRoom
+pub mod SoundAfter
+pub mod SoundKept
+pub mod Kept
+pub mod SortedList
+pub mod Renewed

@@ -1,0 +1,1 @@
+// What holds of every sound register: see specs/.
