@@ -1,0 +1,89 @@
+//! The commands of the vectors: lend, cut, damage, and the ten calls.
+
+use super::line::read_line;
+use crate::calls::Call;
+use std::fmt;
+
+#[derive(Clone, Copy, Debug, PartialEq, Eq)]
+pub enum Command {
+    /// Lend areas of these byte lengths: working pages, stable pages, working log, stable log.
+    Lend([usize; 4]),
+    /// Cut the next call after this many of its stores.
+    Cut(usize),
+    /// Turn over the bits of one byte of one area.
+    Damage {
+        area: usize,
+        byte: usize,
+        bits: u8,
+    },
+    Call(Call),
+}
+
+impl Command {
+    pub fn read(line: &[u8]) -> Option<Command> {
+        let (letter, numbers) = read_line(line)?;
+        match (letter, numbers.as_slice()) {
+            (b'L', [p, q, s, t]) => Some(Command::Lend([*p as usize, *q as usize, *s as usize, *t as usize])),
+            (b'K', [stores]) => Some(Command::Cut(*stores as usize)),
+            (b'P', [area @ 0..=3, byte, bits @ 0..=255]) => {
+                Some(Command::Damage { area: *area as usize, byte: *byte as usize, bits: *bits as u8 })
+            }
+            (b'Z', []) => Some(Command::Call(Call::Format)),
+            (b'R', []) => Some(Command::Call(Call::Restart)),
+            _ => read_call(letter, &numbers).map(Command::Call),
+        }
+    }
+}
+
+/// The calls that the console has too. None if a number does not fit 32 bits.
+pub fn read_call(letter: u8, numbers: &[u64]) -> Option<Call> {
+    let numbers: Vec<u32> = numbers.iter().map(|number| u32::try_from(*number).ok()).collect::<Option<_>>()?;
+    match (letter, numbers.as_slice()) {
+        (b'B', []) => Some(Call::Begin),
+        (b'I', &[batch, key, value]) => Some(Call::Insert { batch, key, value }),
+        (b'D', &[batch, key]) => Some(Call::Delete { batch, key }),
+        (b'F', &[batch, key]) => Some(Call::Fetch { batch, key }),
+        (b'N', &[batch, key]) => Some(Call::Next { batch, key }),
+        (b'C', &[batch]) => Some(Call::Commit { batch }),
+        (b'A', &[batch]) => Some(Call::Abort { batch }),
+        (b'W', &[page]) => Some(Call::WriteOut { page }),
+        _ => None,
+    }
+}
+
+pub fn letter_of(call: &Call) -> char {
+    match call {
+        Call::Format => 'Z',
+        Call::Begin => 'B',
+        Call::Fetch { .. } => 'F',
+        Call::Next { .. } => 'N',
+        Call::Insert { .. } => 'I',
+        Call::Delete { .. } => 'D',
+        Call::Commit { .. } => 'C',
+        Call::Abort { .. } => 'A',
+        Call::WriteOut { .. } => 'W',
+        Call::Restart => 'R',
+    }
+}
+
+impl fmt::Display for Command {
+    fn fmt(&self, to: &mut fmt::Formatter<'_>) -> fmt::Result {
+        match self {
+            Command::Lend([p, q, s, t]) => write!(to, "L {p} {q} {s} {t}"),
+            Command::Cut(stores) => write!(to, "K {stores}"),
+            Command::Damage { area, byte, bits } => write!(to, "P {area} {byte} {bits}"),
+            Command::Call(call) => {
+                write!(to, "{}", letter_of(call))?;
+                match call {
+                    Call::Format | Call::Begin | Call::Restart => Ok(()),
+                    Call::Insert { batch, key, value } => write!(to, " {batch} {key} {value}"),
+                    Call::Fetch { batch, key } | Call::Next { batch, key } | Call::Delete { batch, key } => {
+                        write!(to, " {batch} {key}")
+                    }
+                    Call::Commit { batch } | Call::Abort { batch } => write!(to, " {batch}"),
+                    Call::WriteOut { page } => write!(to, " {page}"),
+                }
+            }
+        }
+    }
+}

@@ -1,0 +1,24 @@
+//! What the tests need around the calls: an instrument with a plug to pull, the vector and console formats, random
+//! traces, and 01's plain book.
+
+mod book;
+mod command;
+mod console;
+mod explain;
+pub mod forge;
+mod hash;
+mod instrument;
+mod line;
+mod random;
+mod trace;
+mod vectors;
+
+pub use book::Book;
+pub use command::Command;
+pub use console::run_console;
+pub use console::Console;
+pub use explain::explain;
+pub use instrument::{Event, Instrument};
+pub use random::Random;
+pub use trace::{damaged_trace, trace};
+pub use vectors::run_vectors;

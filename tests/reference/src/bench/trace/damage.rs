@@ -1,0 +1,54 @@
+//! Damage in a trace: bits are turned or the stored image is forged, some calls meet that, and it is put right again.
+
+use super::maker::Maker;
+use crate::bench::forge::{forge_image, turn_a_bit};
+use crate::bench::Command;
+use crate::calls::Call;
+use crate::layout::Areas;
+
+pub fn damage(maker: &mut Maker) {
+    let areas = &maker.instrument.areas;
+    let mut damaged = areas.clone();
+    if maker.random.once_in(3) {
+        turn_a_bit(&mut maker.random, &mut damaged);
+    } else if let Some(forged) = forge_image(&mut maker.random, areas) {
+        damaged = forged;
+    }
+    let differences = differences(areas, &damaged);
+    maker.run_all(&differences);
+    if maker.random.once_in(2) {
+        some_calls(maker);
+    }
+    // Turning the same bits again takes the damage back, where no call took it up.
+    if maker.make(Call::Restart).answer.is_err() && maker.random.once_in(8) {
+        maker.make(Call::Format);
+    } else if maker.sound.is_none() {
+        maker.run_all(&differences);
+        maker.make(Call::Restart);
+    }
+}
+
+fn some_calls(maker: &mut Maker) {
+    let page = maker.random.below(maker.page_count()) as u32;
+    maker.make(Call::Begin);
+    if let Some(batch) = maker.some_batch() {
+        let key = maker.keys.any(&mut maker.random);
+        maker.make(Call::Next { batch, key });
+        maker.make(Call::Insert { batch, key, value: 4 });
+        maker.make(Call::Commit { batch });
+    }
+    maker.make(Call::WriteOut { page });
+}
+
+/// The turned bits that make the one from the other, byte by byte.
+fn differences(from: &Areas, to: &Areas) -> Vec<Command> {
+    let mut commands = Vec::new();
+    for (area, (from, to)) in from.each().into_iter().zip(to.each()).enumerate() {
+        for (byte, (from, to)) in from.iter().zip(to).enumerate() {
+            if from != to {
+                commands.push(Command::Damage { area, byte, bits: from ^ to });
+            }
+        }
+    }
+    commands
+}

@@ -1,0 +1,49 @@
+//! The ten calls, each a function from areas and desk to an outcome. Checks go in the order of the refusals' numbers.
+
+mod batch;
+mod begin;
+mod end;
+mod format;
+mod outcome;
+mod read;
+mod restart;
+mod sound;
+mod undo;
+mod update;
+mod write_out;
+
+pub use outcome::{Answer, Outcome};
+pub use restart::redo_alone;
+pub use sound::{pages_suffice, slots_suffice, sound, Sound};
+
+use crate::layout::{Areas, Desk};
+
+#[derive(Clone, Copy, Debug, PartialEq, Eq)]
+pub enum Call {
+    Format,
+    Begin,
+    Fetch { batch: u32, key: u32 },
+    Next { batch: u32, key: u32 },
+    Insert { batch: u32, key: u32, value: u32 },
+    Delete { batch: u32, key: u32 },
+    Commit { batch: u32 },
+    Abort { batch: u32 },
+    WriteOut { page: u32 },
+    Restart,
+}
+
+/// One call on what the last one left. Refusals included, the outcome is all there is to say about it.
+pub fn call(areas: &Areas, desk: &Desk, call: Call) -> Outcome {
+    match call {
+        Call::Format => format::format(areas),
+        Call::Begin => begin::begin(areas, desk),
+        Call::Fetch { batch, key } => read::fetch(areas, desk, batch, key),
+        Call::Next { batch, key } => read::next(areas, desk, batch, key),
+        Call::Insert { batch, key, value } => update::insert(areas, desk, batch, key, value),
+        Call::Delete { batch, key } => update::delete(areas, desk, batch, key),
+        Call::Commit { batch } => end::commit(areas, desk, batch),
+        Call::Abort { batch } => end::abort(areas, desk, batch),
+        Call::WriteOut { page } => write_out::write_out(areas, desk, page),
+        Call::Restart => restart::restart(areas),
+    }
+}

@@ -1,0 +1,75 @@
+//! Restart: redo all, then undo what the open batches have pending, then store the new records.
+
+use super::outcome::store_records;
+use super::undo::undo_newest;
+use super::{Answer, Outcome};
+use crate::layout::{Areas, Desk, Kind};
+use crate::log::{obeys_pending_rule, redo, Update, Work};
+use crate::tree::slides_of;
+use crate::Refusal;
+
+pub fn restart(areas: &Areas) -> Outcome {
+    match try_restart(areas) {
+        Ok((work, stored, answer)) => {
+            let stores = store_records(&work, stored);
+            Outcome::done(areas, &work, work.log.last_number(), stores, answer)
+        }
+        Err(refusal) => refused(areas, refusal),
+    }
+}
+
+/// "Restart's 3 to 18 zero the working areas; a refused restart gives an empty desk."
+fn refused(areas: &Areas, refusal: Refusal) -> Outcome {
+    let mut outcome = Outcome::refused(areas, &Desk::empty(), refusal);
+    if refusal != Refusal::Lengths {
+        outcome.areas.fill_working(0);
+    }
+    outcome
+}
+
+fn try_restart(areas: &Areas) -> Result<(Work, u32, Answer), Refusal> {
+    let (mut work, changes) = redo_alone(areas)?;
+    let slides = slides_of(&work.pages).ok_or(Refusal::Tree)?;
+    if !obeys_pending_rule(&work.open, &slides) {
+        return Err(Refusal::Tree);
+    }
+    let stored = work.log.last_number();
+    let ended = end_all(&mut work)?;
+    Ok((work, stored, Answer::Restarted { ended, changes }))
+}
+
+/// The stable areas with every change redone and nothing undone, and how many page changes that took. Checks 1, 3, 4, 5.
+pub fn redo_alone(areas: &Areas) -> Result<(Work, u32), Refusal> {
+    if !areas.lengths_are_right() {
+        return Err(Refusal::Lengths);
+    }
+    let mut work = Work::read(&areas.stable_pages, &areas.stable_log)?;
+    let changes = redo(&mut work.pages, &work.log.records)?;
+    Ok((work, changes))
+}
+
+/// End every open batch; answers how many. Stops where the next record or page does not exist.
+fn end_all(work: &mut Work) -> Result<u32, Refusal> {
+    let ended = work.open.list.len() as u32;
+    let unmarked = work.open.list.iter().filter(|batch| !batch.marked);
+    for batch in unmarked.map(|batch| batch.number).collect::<Vec<_>>() {
+        work.write_about_batch(Kind::AbortMark, batch)?;
+    }
+    let nothing_pending = work.open.list.iter().filter(|batch| batch.pending.is_empty());
+    for batch in nothing_pending.map(|batch| batch.number).collect::<Vec<_>>() {
+        work.write_about_batch(Kind::End, batch)?;
+    }
+    while let Some((batch, newest)) = largest_due(work) {
+        undo_newest(work, batch, newest)?;
+        if work.open.find(batch).is_some_and(|open| open.pending.is_empty()) {
+            work.write_about_batch(Kind::End, batch)?;
+        }
+    }
+    Ok(ended)
+}
+
+/// "Undoes always the largest log number due."
+fn largest_due(work: &Work) -> Option<(u32, Update)> {
+    let newest = |batch: &crate::log::Batch| batch.pending.last().map(|update| (batch.number, *update));
+    work.open.list.iter().filter_map(newest).max_by_key(|(_, update)| update.number)
+}

@@ -1,0 +1,62 @@
+//! Insert and delete: go down, then write the update on the leaf that covers the key.
+
+use super::batch::{ask_not_held, enter_to_write};
+use super::sound::{pages_suffice, slots_suffice, Sound};
+use super::{Answer, Outcome};
+use crate::layout::{Areas, Desk, Entry, Kind, Record};
+use crate::log::Work;
+use crate::sizes::{UPDATE_PAGES, UPDATE_RECORDS};
+use crate::tree::{go_down, Purpose};
+use crate::Refusal;
+
+pub fn insert(areas: &Areas, desk: &Desk, batch: u32, key: u32, value: u32) -> Outcome {
+    outcome(areas, desk, try_insert(areas, desk, batch, Entry::new(key, value)))
+}
+
+pub fn delete(areas: &Areas, desk: &Desk, batch: u32, key: u32) -> Outcome {
+    outcome(areas, desk, try_delete(areas, desk, batch, key))
+}
+
+fn outcome(areas: &Areas, desk: &Desk, work: Result<Work, Refusal>) -> Outcome {
+    match work {
+        Ok(work) => Outcome::done(areas, &work, desk.stored, Vec::new(), Answer::Done),
+        Err(refusal) => Outcome::refused(areas, desk, refusal),
+    }
+}
+
+fn try_insert(areas: &Areas, desk: &Desk, batch: u32, slide: Entry) -> Result<Work, Refusal> {
+    let sound = enter_to_write(areas, desk, batch)?;
+    ask_not_held(&sound.work.open, batch, slide.key..=slide.key)?;
+    if find(&sound, slide.key).is_some() {
+        return Err(Refusal::Present);
+    }
+    update(sound.work, batch, Kind::Insert, slide)
+}
+
+fn try_delete(areas: &Areas, desk: &Desk, batch: u32, key: u32) -> Result<Work, Refusal> {
+    let sound = enter_to_write(areas, desk, batch)?;
+    ask_not_held(&sound.work.open, batch, key..=key)?;
+    let slide = find(&sound, key).ok_or(Refusal::Absent)?;
+    update(sound.work, batch, Kind::Delete, slide)
+}
+
+fn find(sound: &Sound, key: u32) -> Option<Entry> {
+    sound.slides.iter().copied().find(|slide| slide.key == key)
+}
+
+fn update(mut work: Work, batch: u32, kind: Kind, slide: Entry) -> Result<Work, Refusal> {
+    // "An update needs u + 32 + 32(p + 1) + 2b at most the slots, and 7 + 7(p + 1) free pages": its own room, and the
+    // room to undo it later.
+    if !slots_suffice(&work, UPDATE_RECORDS, 1, 0) {
+        return Err(Refusal::SlotsShort);
+    }
+    if !pages_suffice(&work, UPDATE_PAGES, 1) {
+        return Err(Refusal::PagesShort);
+    }
+    let purpose = if kind == Kind::Insert { Purpose::Adding } else { Purpose::Removing };
+    let leaf = go_down(&mut work, slide.key, purpose)?;
+    let previous = work.open.find(batch).map_or(0, |open| open.last);
+    let record = Record { batch, previous, a: leaf, key: slide.key, second: slide.value, ..Record::new(kind) };
+    work.write(record)?;
+    Ok(work)
+}

@@ -1,0 +1,51 @@
+//! The model as a program: reads standard input, writes standard output.
+
+use reference::bench::{damaged_trace, explain, run_vectors, trace, Command, Console};
+use std::io::{self, BufRead, Read, Write};
+use std::process::ExitCode;
+
+const USAGE: &str = "usage: reference vectors | console | explain | trace SEED CALLS | damage SEED CALLS";
+
+fn main() -> ExitCode {
+    let arguments: Vec<String> = std::env::args().skip(1).collect();
+    let words: Vec<&str> = arguments.iter().map(String::as_str).collect();
+    let done = match words.as_slice() {
+        ["vectors"] => whole_input(run_vectors),
+        ["explain"] => whole_input(explain),
+        ["console"] => console().map_err(|error| error.to_string()),
+        ["trace", seed, calls] => print_trace(trace, seed, calls),
+        ["damage", seed, calls] => print_trace(damaged_trace, seed, calls),
+        _ => Err(USAGE.to_string()),
+    };
+    match done {
+        Ok(()) => ExitCode::SUCCESS,
+        Err(message) => {
+            eprintln!("{message}");
+            ExitCode::FAILURE
+        }
+    }
+}
+
+fn whole_input(run: fn(&[u8]) -> Result<String, usize>) -> Result<(), String> {
+    let mut input = Vec::new();
+    io::stdin().read_to_end(&mut input).map_err(|error| error.to_string())?;
+    let output = run(&input).map_err(|line| format!("line {line} is no command"))?;
+    io::stdout().write_all(output.as_bytes()).map_err(|error| error.to_string())
+}
+
+/// Line by line, so that it can be talked to.
+fn console() -> io::Result<()> {
+    let mut console = Console::new();
+    for line in io::stdin().lock().split(b'\n') {
+        println!("{}", console.answer(&line?));
+    }
+    Ok(())
+}
+
+fn print_trace(make: fn(u64, usize) -> Vec<Command>, seed: &str, calls: &str) -> Result<(), String> {
+    let (Ok(seed), Ok(calls)) = (seed.parse(), calls.parse()) else {
+        return Err(USAGE.to_string());
+    };
+    let lines: String = make(seed, calls).iter().map(|command| format!("{command}\n")).collect();
+    io::stdout().write_all(lines.as_bytes()).map_err(|error| error.to_string())
+}

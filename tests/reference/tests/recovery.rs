@@ -1,0 +1,167 @@
+//! Demand 3, tried on random traces: whatever the power does, a further restart finishes or stops for want of places,
+//! redo alone gives a tree that obeys the tree rules, and the leaves hold exactly the plain book's slides.
+
+mod common;
+
+use common::each_event;
+use reference::bench::{Book, Event, Instrument};
+use reference::calls::{call, redo_alone, sound, Answer, Call, Outcome};
+use reference::layout::{Areas, Desk, Kind};
+use reference::sizes::{MOST_PAGES, PAGE_BYTES, SLOT_BYTES};
+use reference::tree::slides_of;
+use reference::Refusal;
+
+/// The book after an event, or none between a cut formatting and the next finished one.
+fn book_after(book: Option<Book>, event: &Event) -> Option<Book> {
+    match (event.call, event.answer.is_ok(), event.was_cut) {
+        (Call::Format, true, true) => None,
+        (Call::Format, true, false) => Some(Book::default()),
+        _ => book.map(|mut book| {
+            book.take(event);
+            book
+        }),
+    }
+}
+
+/// The image with its lengths grown by zeros to right ones.
+fn with_right_lengths(areas: &Areas) -> Areas {
+    let pages = areas.working_pages.len().max(areas.stable_pages.len()).div_ceil(PAGE_BYTES);
+    let slots = areas.working_log.len().max(areas.stable_log.len()).div_ceil(SLOT_BYTES);
+    grown(areas, pages, slots)
+}
+
+fn grown(areas: &Areas, pages: usize, slots: usize) -> Areas {
+    let mut grown = areas.clone();
+    grown.working_pages.resize(pages * PAGE_BYTES, 0);
+    grown.stable_pages.resize(pages * PAGE_BYTES, 0);
+    grown.working_log.resize(slots * SLOT_BYTES, 0);
+    grown.stable_log.resize(slots * SLOT_BYTES, 0);
+    grown
+}
+
+fn restart(areas: &Areas) -> Outcome {
+    call(areas, &Desk::empty(), Call::Restart)
+}
+
+/// A restart of the stored image, given right lengths and not cut.
+fn check_image(areas: &Areas, book: &Book) {
+    let image = with_right_lengths(areas);
+    let (redone, _) = redo_alone(&image).expect("redo never meets damage");
+    assert!(slides_of(&redone.pages).is_some(), "redo alone gives a tree by the rules");
+    let outcome = restart(&image);
+    match outcome.answer {
+        Ok(_) => check_slides(&outcome, book),
+        Err(refusal @ (Refusal::SlotsShort | Refusal::PagesShort)) => {
+            let larger = restart(&grown(&image, MOST_PAGES, image.slot_count() + 2000));
+            check_slides(&larger, book);
+            assert_eq!(Some(refusal), first_shortage(&image, redone.pages.free_count(), &larger));
+        }
+        Err(refusal) => panic!("restart called the image damaged: {refusal:?}"),
+    }
+}
+
+/// The leaves hold the book's slides, keys and values.
+fn check_slides(outcome: &Outcome, book: &Book) {
+    let left = sound(&outcome.areas, &outcome.desk).expect("a finished restart leaves sound areas");
+    let slides = left.slides.iter().map(|slide| (slide.key, slide.value));
+    assert!(slides.eq(book.slides.iter().map(|(key, value)| (*key, *value))), "the leaves are the book");
+}
+
+/// Where the lent areas end in the records that the same restart writes in larger ones. Which page is taken differs,
+/// but not when one is.
+fn first_shortage(image: &Areas, free: usize, larger: &Outcome) -> Option<Refusal> {
+    let mut free = free;
+    let records = sound(&larger.areas, &larger.desk)?.work.log.records;
+    let new = &records[records.len() - larger.stores.len()..];
+    for record in new {
+        if record.own as usize > image.slot_count() {
+            return Some(Refusal::SlotsShort);
+        }
+        match record.kind {
+            Kind::Split | Kind::Raise if free == 0 => return Some(Refusal::PagesShort),
+            Kind::Split | Kind::Raise => free -= 1,
+            Kind::Merge | Kind::Lower => free += 1,
+            _ => {}
+        }
+    }
+    None
+}
+
+/// Every other place at which this call could have been cut. With no store it leaves the image of the call before; with
+/// all of them, that of the call itself.
+fn check_every_cut(before: &Instrument, made: Call, book: &Option<Book>) {
+    let outcome = before.outcome_of(made);
+    let stores = outcome.stores.len();
+    for carried_out in 1..stores {
+        let event = Event { call: made, answer: outcome.answer, was_cut: true, carried_out, stores };
+        let Some(book) = book_after(book.clone(), &event) else {
+            return;
+        };
+        let mut cut = before.clone();
+        cut.pull_plug(&outcome, carried_out);
+        check_image(&cut.areas, &book);
+    }
+}
+
+/// "A refusal changes nothing", but for formats and restarts; a call that passes leaves sound areas.
+fn check_areas(before: &Instrument, event: &Event, after: &Instrument) {
+    match (event.was_cut, event.answer) {
+        (false, Ok(_)) => {
+            assert!(sound(&after.areas, &after.desk).is_some(), "{:?} leaves sound areas", event.call);
+        }
+        (false, Err(_)) if !matches!(event.call, Call::Format | Call::Restart) => {
+            assert!(before == after, "{:?} was refused and changes nothing", event.call);
+        }
+        _ => {}
+    }
+}
+
+fn same_image(before: &Instrument, after: &Instrument) -> bool {
+    before.areas.stable_pages == after.areas.stable_pages && before.areas.stable_log == after.areas.stable_log
+}
+
+#[derive(Default)]
+struct Seen {
+    cuts: usize,
+    restarts: usize,
+    cut_restarts: usize,
+    images: usize,
+}
+
+fn check_trace(seed: u64, calls: usize, seen: &mut Seen) {
+    let mut book = None;
+    each_event(seed, calls, |before, event, after| {
+        check_every_cut(before, event.call, &book);
+        let slides_before = book.as_ref().map(|book| book.slides.clone());
+        book = book_after(book.take(), event);
+        let slides = book.as_ref().map(|book| &book.slides);
+        // The same image and the same slides would only be looked at twice.
+        if !same_image(before, after) || slides_before.as_ref() != slides {
+            book.iter().for_each(|book| check_image(&after.areas, book));
+            seen.images += 1;
+        }
+        check_areas(before, event, after);
+        seen.cuts += usize::from(event.was_cut);
+        seen.cut_restarts += usize::from(event.was_cut && event.call == Call::Restart);
+        seen.restarts += usize::from(matches!(event.finished(), Some(Answer::Restarted { .. })));
+    });
+}
+
+fn check_seeds(seeds: std::ops::Range<u64>, calls: usize) {
+    let mut seen = Seen::default();
+    for seed in seeds {
+        check_trace(seed, calls, &mut seen);
+    }
+    // A trace without cuts would check nothing.
+    assert!(seen.cuts > 50 && seen.restarts > 20 && seen.cut_restarts > 20 && seen.images > 500);
+}
+
+#[test]
+fn no_cut_loses_or_invents_a_slide_in_short_runs() {
+    check_seeds(100..120, 300);
+}
+
+#[test]
+fn no_cut_loses_or_invents_a_slide_in_long_runs() {
+    check_seeds(200..205, 1500);
+}

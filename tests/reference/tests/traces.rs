@@ -1,0 +1,178 @@
+//! The random traces are the same for the same seed, are read back as they are printed, and meet what they are for.
+
+mod common;
+
+use common::{each_event, each_event_of};
+use reference::bench::{damaged_trace, trace, Command, Event, Instrument};
+use reference::calls::sound;
+use reference::layout::{Kind, Page, Record, Store};
+use std::collections::BTreeSet;
+
+#[test]
+fn the_same_seed_gives_the_same_trace() {
+    assert_eq!(trace(7, 200), trace(7, 200));
+    assert_ne!(trace(7, 200), trace(8, 200));
+}
+
+#[test]
+fn a_printed_command_is_read_back() {
+    for command in trace(9, 1000).into_iter().chain(damaged_trace(9, 200)) {
+        assert_eq!(Command::read(command.to_string().as_bytes()), Some(command));
+    }
+}
+
+/// What an event was, in words.
+fn features(before: &Instrument, event: &Event, after: &Instrument) -> Vec<String> {
+    let mut features = Vec::new();
+    let name = format!("{:?}", event.call);
+    let name = name.split(' ').next().unwrap_or_default();
+    match event.answer {
+        Err(refusal) if !event.was_cut => features.push(format!("{name} refused {}", refusal.number())),
+        Ok(_) if event.was_cut => features.push(format!("{name} cut")),
+        _ => {}
+    }
+    if event.was_cut && event.carried_out > 0 {
+        let last = before.outcome_of(event.call).stores.swap_remove(event.carried_out - 1);
+        features.push(format!("cut after {}", store_kind(&last)));
+    } else if event.answer.is_ok() {
+        features.extend(new_records(before, after));
+    }
+    features
+}
+
+fn store_kind(store: &Store) -> String {
+    match store {
+        Store::Page { bytes, .. } => format!("{:?} page", Page::read(bytes).kind),
+        Store::Slot { bytes, .. } => {
+            Record::read(bytes).map_or("empty slot".to_string(), |record| format!("{:?}", record.kind))
+        }
+    }
+}
+
+/// The tree changes that a call wrote, with the level where the record or its page says it.
+fn new_records(before: &Instrument, after: &Instrument) -> Vec<String> {
+    let writes = before.desk.written != after.desk.written;
+    let Some(sound) = writes.then(|| sound(&after.areas, &after.desk)).flatten() else {
+        return Vec::new();
+    };
+    let new = sound.work.log.records.iter().skip(before.desk.written as usize).collect::<Vec<_>>();
+    let linked_first = (0..new.len()).filter_map(|place| linked_before_a_join(&new[place..])).map(String::from);
+    let describe = |record: &Record| match record.kind {
+        Kind::Split | Kind::Raise | Kind::Lower => format!("{:?} at level {}", record.kind, record.level),
+        Kind::Redistribute => {
+            let to = if record.entries[0].key <= record.key { "left" } else { "right" };
+            format!("Redistribute to the {to} at level {}", sound.work.page(record.a).level)
+        }
+        kind => format!("{kind:?} at level {}", sound.work.page(record.a).level),
+    };
+    let tree_changes = new.iter().filter(|record| record.kind >= Kind::Split);
+    tree_changes.map(|record| describe(record)).chain(linked_first).collect()
+}
+
+/// Step 3's links: of an indirect page after the right neighbour, which is then unlinked, or of a left neighbour that is
+/// indirect itself, and then covers less than the key of the update.
+fn linked_before_a_join(records: &[&Record]) -> Option<&'static str> {
+    let (link, unlink) = (records.first()?, records.get(1)?);
+    if link.kind != Kind::Link || unlink.kind != Kind::Unlink || link.a != unlink.a {
+        return None;
+    }
+    let update = records.iter().find(|record| record.kind < Kind::Split)?;
+    if unlink.c == link.b {
+        Some("link after the right neighbour")
+    } else if unlink.b == link.c && update.key > unlink.key {
+        Some("link of the left neighbour")
+    } else {
+        None
+    }
+}
+
+/// What the traces are for. Restart's 5 and 6 need damage, and its 18 and abort's 19 an image past the reserves.
+const WANTED: [&str; 67] = [
+    "link after the right neighbour",
+    "link of the left neighbour",
+    "Split at level 0",
+    "Split at level 1",
+    "Link at level 1",
+    "Link at level 2",
+    "Unlink at level 1",
+    "Unlink at level 2",
+    "Merge at level 0",
+    "Merge at level 1",
+    "Redistribute to the left at level 0",
+    "Redistribute to the right at level 0",
+    "Raise at level 0",
+    "Raise at level 1",
+    "Lower at level 0",
+    "Lower at level 1",
+    "Format refused 1",
+    "Begin refused 11",
+    "Begin refused 13",
+    "Fetch refused 11",
+    "Fetch refused 12",
+    "Fetch refused 14",
+    "Fetch refused 16",
+    "Next refused 11",
+    "Next refused 12",
+    "Next refused 14",
+    "Next refused 16",
+    "Insert refused 11",
+    "Insert refused 12",
+    "Insert refused 14",
+    "Insert refused 15",
+    "Insert refused 17",
+    "Insert refused 18",
+    "Delete refused 11",
+    "Delete refused 12",
+    "Delete refused 14",
+    "Delete refused 16",
+    "Delete refused 17",
+    "Delete refused 18",
+    "Commit refused 11",
+    "Commit refused 12",
+    "Abort refused 11",
+    "Abort refused 12",
+    "WriteOut refused 2",
+    "WriteOut refused 11",
+    "Restart refused 3",
+    "Abort cut",
+    "Commit cut",
+    "Format cut",
+    "Insert cut",
+    "Restart cut",
+    "WriteOut cut",
+    "cut after Begin",
+    "cut after Insert",
+    "cut after Delete",
+    "cut after UndoInsert",
+    "cut after UndoDelete",
+    "cut after Commit",
+    "cut after AbortMark",
+    "cut after End",
+    "cut after Split",
+    "cut after Link",
+    "cut after Unlink",
+    "cut after Leaf page",
+    "cut after Index page",
+    "cut after Map page",
+    "cut after Free page",
+];
+
+#[test]
+fn the_traces_meet_each_tree_change_each_refusal_and_each_kind_of_cut() {
+    let mut met = BTreeSet::new();
+    for seed in 1..=12 {
+        each_event(seed, 2000, |before, event, after| met.extend(features(before, event, after)));
+    }
+    let missed: Vec<&str> = WANTED.into_iter().filter(|feature| !met.contains(*feature)).collect();
+    assert!(missed.is_empty(), "the traces never meet {missed:?}");
+}
+
+#[test]
+fn the_damaged_traces_meet_restarts_reasons_and_go_on() {
+    let mut met = BTreeSet::new();
+    for seed in 1..=4 {
+        each_event_of(&damaged_trace(seed, 800), |before, event, after| met.extend(features(before, event, after)));
+    }
+    let wanted = [3, 4, 5, 6].map(|number| format!("Restart refused {number}"));
+    assert!(wanted.iter().all(|feature| met.contains(feature)), "{met:?}");
+}
