@@ -1,7 +1,7 @@
 -- The children of a tree fit in ten bits.
 use Prim.Native.Nat.{ℕ, _≤_}
 use mathlib.Core.Path.{_≡_, refl, subst}
-use mathlib.Core.Bool.{true}
+use mathlib.Core.Bool.{Bool, true, false, _||_}
 use mathlib.Core.List.{List, [], _∷_, _++_}
 use native.Mathlib.Omega.{arith}
 use lib.ListN.{length}
@@ -10,7 +10,7 @@ use Rattle.base.specs.Tests.{lt-true, and-true}
 use Rattle.layout.specs.declared.Entry.{Entry}
 use Rattle.layout.specs.Entries.{ten-bits}
 use Rattle.layout.specs.Pages.{Page, map-bits}
-use Rattle.model.specs.Fit.{children-in}
+use Rattle.model.specs.Fit.{is-leaf, children-in}
 use Rattle.model.specs.TreeRules.{Node, flat}
 use Rattle.tree_laws.specs.Levels.{flat-append, Match, done, one, two}
 use Rattle.tree_laws.specs.Chains.{IsNode, Chained}
@@ -31,6 +31,13 @@ unfolding ten-bits
 bits-part [] [] c t = refl
 bits-part [] (e ∷ b) c t = let (x, y) = and-true (ltb (e .val) 1024) (ten-bits (b ++ c)) t in rw x (bits-part [] b c y)
 bits-part (e ∷ a) b c t = bits-part a b c (and-true (ltb (e .val) 1024) (ten-bits (a ++ (b ++ c))) t .1)
+
+pub children-part : (x : Page) (a b c : List Entry) → children-in x (a ++ (b ++ c)) ≡ true → children-in x b ≡ true
+children-part x a b c t = go (is-leaf x) t
+  where
+    go : (l : Bool) → l || ten-bits (a ++ (b ++ c)) ≡ true → l || ten-bits b ≡ true
+    go true t = refl
+    go false t = bits-part a b c t
 
 pub node-bits : (pages : List Page) (xs : List Node) (n : Node) (ys : List Node) (downs : List (List Node)) (x : Page) (next : ℕ) (q : Node)
     → length pages ≤ map-bits → Levels pages ((xs ++ n ∷ ys) ∷ downs) → Joined ((xs ++ n ∷ ys) ∷ downs)

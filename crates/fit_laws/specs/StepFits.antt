@@ -3,7 +3,7 @@ use Prim.Native.Nat.{ℕ, suc, _+_, _-_, _≤_, _<_}
 use mathlib.Core.Path.{_≡_, refl, sym, ap, _∙_, subst}
 use mathlib.Core.Option.{none, some}
 use mathlib.Core.Bool.{true}
-use mathlib.Core.List.{List, [], _∷_, _++_, append-assoc}
+use mathlib.Core.List.{List, [], _∷_, _++_, append-assoc, append-nil}
 use native.Mathlib.Omega.{arith}
 use lib.ListN.{length, take, drop, length-append}
 use lib.Dec.{leb}
@@ -13,7 +13,7 @@ use Rattle.layout.specs.Entries.{top, room, look}
 use Rattle.layout.specs.Pages.{free, page-kind-number, kind-is, Page, at, map-bits}
 use Rattle.layout.specs.Records.{Kind, Rec, batch-row, data-row, split-row, link-row, unlink-row, merge-row, redistribute-row, raise-row, lower-row}
 use Rattle.model.specs.Change.{first-key, kept}
-use Rattle.model.specs.Fit.{found, found-value, after, link-fits, side-by-side, share-fits-a, share-fits-b, fits-a, fits-b, fits-map, fits-role, fits}
+use Rattle.model.specs.Fit.{found, found-value, children-in, after, link-fits, side-by-side, share-fits-a, share-fits-b, fits-a, fits-b, fits-map, fits-role, fits}
 use Rattle.model.specs.TreeRules.{Node, flat, first-page, least}
 use Rattle.tree_laws.specs.Keys.{Rising, after-append, rising-weaken, after-mono}
 use Rattle.tree_laws.specs.Levels.{Match, ChainOk, ends-le, chain-cut, chain-from-of, match-from}
@@ -31,7 +31,7 @@ use Rattle.tree_laws.specs.Steps.{Adding, by-insert, by-undo-delete, Removing, 
 use Rattle.tree_laws.specs.StepParts.{under}
 use Rattle.update_laws.specs.Places.{index-node}
 use Rattle.fit_laws.specs.Judging.{role-cases, entries-self, entries-same, cancel-left, cancel-size, take-all, tail-cut, link-fit, side-fit, level-test, node-test, index-test, leaf-test, first-rises}
-use Rattle.fit_laws.specs.Children.{node-bits, below-of}
+use Rattle.fit_laws.specs.Children.{node-bits, below-of, children-part}
 use Rattle.fit_laws.specs.Clean.{Clean}
 
 module _ (pages : List Page) (small : length pages ≤ map-bits) (clean : Clean pages) where
@@ -126,7 +126,7 @@ module _ (pages : List Page) (small : length pages ≤ map-bits) (clean : Clean 
         eq-true (at pages (q .page) .right) (r .page) (i .right),
         le-true (after 0 (q .items)) (first-key (r .items)) (omega arith),
       ) bits)
-      (λ z. rw (j .items, entries-self (r .items), eq-true (at pages (r .page) .right) (first-page cs 0) (j .right)))
+      (λ z. rw (node-test (at pages (r .page)) (length downs) (first-page cs 0) r j, j .items, entries-self (r .items), eq-true (at pages (r .page) .right) (first-page cs 0) (j .right)))
       (λ z. clash (sym z)) (λ z. mk)
 
   share-passes : (ups : List (List Node)) (u bs : List Node) (q r : Node) (cs : List Node) (downs : List (List Node)) (key : ℕ) (moved : List Entry)
@@ -145,6 +145,22 @@ module _ (pages : List Page) (small : length pages ≤ map-bits) (clean : Clean 
       j : IsNode (at pages (r .page)) (length downs) (first-page cs 0) r
       j = page-at pages (ups ++ u ∷ []) (bs ++ q ∷ []) r cs downs (subst (λ z. Levels pages ((ups ++ u ∷ []) ++ z ∷ downs)) (sym (append-assoc bs (q ∷ []) (r ∷ cs))) lv) .2
 
+      sa : (bs ++ q ∷ []) ++ r ∷ cs ≡ bs ++ q ∷ r ∷ cs
+      sa = append-assoc bs (q ∷ []) (r ∷ cs)
+
+      below : Levels pages ((bs ++ q ∷ r ∷ cs) ∷ downs)
+      below = below-of pages (ups ++ u ∷ []) (bs ++ q ∷ r ∷ cs) downs lv
+
+      fitted : Joined ((bs ++ q ∷ r ∷ cs) ∷ downs)
+      fitted = joined-cut (ups ++ u ∷ []) (bs ++ q ∷ r ∷ cs) downs (subst Joined (sym (under ups u (bs ++ q ∷ r ∷ cs) downs)) (k .joined)) .1
+
+      -- The children of either page have ten bits, whichever page they stand on.
+      r-bits : children-in (at pages (q .page)) (r .items) ≡ true
+      r-bits = node-bits pages (bs ++ q ∷ []) r cs downs (at pages (q .page)) (r .page) q small (subst (λ z. Levels pages (z ∷ downs)) (sym sa) below) (subst (λ z. Joined (z ∷ downs)) (sym sa) fitted) i
+
+      q-bits : children-in (at pages (r .page)) (q .items) ≡ true
+      q-bits = node-bits pages bs q (r ∷ cs) downs (at pages (r .page)) (first-page cs 0) r small below fitted j
+
       go : Case (leb (first-key moved) key) → fits p (redistribute-row (q .page) (r .page) key moved) (at pages p) ≡ true
       go (yes! c) =
           let l₁ : shared-left q key moved .items ≡ q .items ++ moved = rw c refl in
@@ -155,7 +171,7 @@ module _ (pages : List Page) (small : length pages ≤ map-bits) (clean : Clean 
           let n₁ : length (q .items) + length moved ≤ room = let a = z₁ .0 in let b = ap length l₁ ∙ length-append (q .items) moved in omega arith in
           let a₁ : after 0 (q .items ++ moved) ≡ suc key = ap (after 0) (sym l₁) ∙ s .last-key 0 in
           role-cases (redistribute-row (q .page) (r .page) key moved) p pages
-          (λ z. rw (node-test (at pages (q .page)) (length downs) (r .page) q i, eq-true (at pages (q .page) .right) (r .page) (i .right), c, i .items, le-true (length (q .items) + length moved) room n₁, eq-true (after 0 (q .items ++ moved)) (suc key) a₁))
+          (λ z. rw (node-test (at pages (q .page)) (length downs) (r .page) q i, eq-true (at pages (q .page) .right) (r .page) (i .right), c, i .items, le-true (length (q .items) + length moved) room n₁, eq-true (after 0 (q .items ++ moved)) (suc key) a₁) (children-part (at pages (q .page)) [] moved (drop (length moved) (r .items)) (subst (λ z. children-in (at pages (q .page)) z ≡ true) rr r-bits)))
           (λ z. rw (node-test (at pages (r .page)) (length downs) (first-page cs 0) r j, c, j .items) (entries-same _ moved tk))
           (λ z. clash (sym z)) (λ z. clash (sym z))
       go (no! c) =
@@ -178,7 +194,7 @@ module _ (pages : List Page) (small : length pages ≤ map-bits) (clean : Clean 
             entries-same _ moved d,
             eq-true (after 0 (take (length (q .items) - length moved) (q .items))) (suc key) a₁,
           ))
-          (λ z. rw (node-test (at pages (r .page)) (length downs) (first-page cs 0) r j, c, j .items, le-true (length (r .items) + length moved) room n₂))
+          (λ z. rw (node-test (at pages (r .page)) (length downs) (first-page cs 0) r j, c, j .items, le-true (length (r .items) + length moved) room n₂) (children-part (at pages (r .page)) (kept moved (q .items)) moved [] (subst (λ z. children-in (at pages (r .page)) z ≡ true) (qq ∙ ap (kept moved (q .items) ++_) (sym (append-nil moved))) q-bits)))
           (λ z. clash (sym z)) (λ z. clash (sym z))
 
   raise-passes : (r s : Node) (downs : List (List Node)) (c : ℕ) → Gives (length pages) (at pages 0 .marks) c → Rules pages ((r ∷ s ∷ []) ∷ downs)

@@ -67,12 +67,12 @@ ends-with es x = same-entries (drop (size x - length es) (x .entries)) es
 
 -- A redistribution, on the receiving or the giving page.
 unfoldable pub share-fits-a : Bool → Rec → Page → Bool
-share-fits-a true r x = has-room (length (r .entries)) x && last-key-is (r .key) (x .entries ++ r .entries)
+share-fits-a true r x = has-room (length (r .entries)) x && (last-key-is (r .key) (x .entries ++ r .entries) && children-in x (r .entries))
 share-fits-a false r x = ends-with (r .entries) x && last-key-is (r .key) (kept (r .entries) (x .entries))
 
 unfoldable pub share-fits-b : Bool → Rec → Page → Bool
 share-fits-b true r x = same-entries (take (length (r .entries)) (x .entries)) (r .entries)
-share-fits-b false r x = has-room (length (r .entries)) x
+share-fits-b false r x = has-room (length (r .entries)) x && children-in x (r .entries)
 
 unfoldable pub fits-a : Kind → Rec → Page → Bool
 fits-a begin r x = true
@@ -105,7 +105,7 @@ fits-b end r x = true
 fits-b split r x = kind-is (x .kind) free
 fits-b link r x = true
 fits-b unlink r x = true
-fits-b merge r x = same-entries (x .entries) (r .entries) && eqb (x .right) (r .right)
+fits-b merge r x = is-node x && (same-entries (x .entries) (r .entries) && eqb (x .right) (r .right))
 fits-b redistribute r x = is-node x && share-fits-b (into-a r) r x
 fits-b raise r x = true
 fits-b lower r x = at-level (r .level) x && (same-entries (x .entries) (r .entries) && eqb (x .right) 0)

@@ -75,10 +75,8 @@ fn unlinks(page: &Page, record: &Record) -> bool {
 }
 
 fn merges(page: &Page, record: &Record) -> bool {
-    let in_order = match (page.entries.last(), record.entries.first()) {
-        (Some(last), Some(first)) => last.key < first.key,
-        _ => true,
-    };
+    let first = record.entries.first().map_or(0, |entry| entry.key);
+    let in_order = page.entries.last().map_or(true, |last| last.key < first);
     in_tree(page) && takes(page, record) && page.right == record.b && in_order
 }
 
