@@ -1,0 +1,14 @@
+-- `node`: a page of a new page's numbers.
+use borrow.Author.Needs.{needs}
+use Rattle.change.proofs.node.Statement.{statement}
+use Rattle.change.proofs.node.Tie as tie
+use Rattle.change.specs.Pages.{node-typed}
+
+cast-t9 : tie.Need-cast-t9
+cast-t9 c = search needs
+
+returns : tie.Need-returns
+returns c = let a = c .before .before .args in node-typed (a .kind) (a .level) (a .own) (a .right) (a .high) (a .l .count) (a .l .entries) (c .before .before .pre .0)
+
+pub node-spec : {M : Type 1} → statement M
+node-spec = tie.close (tie.spec cast-t9 returns)

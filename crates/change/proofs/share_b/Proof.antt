@@ -1,0 +1,33 @@
+-- `share_b`: by the side that the entries go to.
+use borrow.Author.Needs.{needs}
+use Rattle.change.proofs.share_b.Statement.{statement}
+use Rattle.change.proofs.share_b.Tie as tie
+use mathlib.Core.Path.{sym, _∙_}
+use Rattle.change.specs.Pages.{share-b-in, share-b-out}
+
+cast-m : tie.Need-cast-m
+cast-m c = search needs
+
+into-a-requires : tie.Need-into-a-requires
+into-a-requires c κs = search needs
+
+without-first-requires : tie.Need-without-first-requires
+without-first-requires c κs = search needs
+
+returns : tie.Need-returns
+returns c =
+    let a = c .before .before .before .before .args in
+    (share-b-in (a .r) (a .n) (a .es) (c .before .before .before .before .pre .0) (c .without-first .result .count) (c .without-first .result .entries) (sym (c .before .before .into-a .ensures) ∙ c .before .if1 .taken) (c .without-first .ensures .1) (c .without-first .ensures .0), c .without-first .ensures .1)
+
+join-requires : tie.Need-join-requires
+join-requires c κs = search needs
+
+returns-2 : tie.Need-returns-2
+returns-2 c =
+    let a = c .before .before .before .before .before .args in
+    (share-b-out (a .r) (a .n) (a .es) (c .before .before .before .before .before .pre .0) _ (sym (c .before .before .before .into-a .ensures) ∙ c .before .before .if1 .left) (c .join .ensures .0), c .join .ensures .1)
+
+pub share-b-spec : {M : Type 1} → statement M
+share-b-spec =
+    tie.close
+    (tie.spec cast-m into-a-requires without-first-requires returns join-requires returns-2)

@@ -1,0 +1,4 @@
+pub mod Lists
+pub mod Pages
+pub mod Roles
+pub mod Changes

@@ -1,0 +1,187 @@
+-- A page's part in a record, by number, and which parts a kind has.
+use mathlib.Core.Path.{_≡_, refl, sym, subst}
+use Prim.Native.Nat.{ℕ, zero, suc, _+_, _/_, _%_, _<_, _≤_}
+use native.Mathlib.Omega.{arith}
+use mathlib.Core.Bool.{Bool, true, false, _&&_}
+use lib.ListN.{List·getD-eq-default}
+use lib.Dec.{ltb, eqb}
+use Rattle.base.specs.Tests.{pick}
+use Rattle.layout.specs.Records.{Kind, kinds, kind-of, begin, commit, abort-mark, end}
+use Rattle.bytes.specs.Ranges.{Run, in-run}
+use Rattle.model.specs.Change as model
+use Rattle.model.specs.Change.{Role, as-a, as-b, as-c, as-map, Shape, shape, role}
+use Rattle.change.specs.declared.Record.{Record}
+use Rattle.change.specs.Pages.{rec}
+
+-- None, A, B, C, the map.
+unfoldable pub role-at : ℕ → Role
+role-at zero = model.none
+role-at (suc zero) = as-a
+role-at (suc (suc zero)) = as-b
+role-at (suc (suc (suc zero))) = as-c
+role-at (suc (suc (suc (suc n)))) = as-map
+
+pub role-map : (t : ℕ) → 4 ≤ t → role-at t ≡ as-map
+unfolding role-at
+role-map zero h = absurd (omega arith)
+role-map (suc zero) h = absurd (omega arith)
+role-map (suc (suc zero)) h = absurd (omega arith)
+role-map (suc (suc (suc zero))) h = absurd (omega arith)
+role-map (suc (suc (suc (suc t)))) h = refl
+
+-- Whether a page of a kind's number can have a part: A and B have entries, which the map has not.
+unfoldable pub able : Role → ℕ → Bool
+able model.none k = true
+able as-a k = ltb k 3
+able as-b k = ltb k 3
+able as-c k = true
+able as-map k = true
+
+-- The parts that a kind has, as a bit each.
+unfoldable pub mask : Shape → ℕ
+mask s = pick (s .a) 8 0 + pick (s .b) 4 0 + pick (s .c) 2 0 + pick (s .m) 1 0
+
+-- ---- kinds by number
+
+-- What holds of the kinds that change no page: 0 and 1, 6 to 8, and what is no kind.
+module _ (P : Kind → Type 0) (b : P begin) where
+  pub quiet-low : (k : ℕ) → k < 2 → P (kind-of k)
+  unfolding kind-of Run
+  quiet-low k h = in-run (λ (n : ℕ). P (kind-of n)) 2 0 k (b, (b, tt)) (omega arith) h
+
+  pub quiet-past : (k : ℕ) → 16 ≤ k → P (kind-of k)
+  unfolding kind-of
+  quiet-past k h = subst P (sym (List·getD-eq-default kinds begin {n = k} h)) b
+
+  module _ (c : P commit) (a : P abort-mark) (e : P end) where
+    pub quiet-mid : (k : ℕ) → 6 ≤ k → k < 9 → P (kind-of k)
+    unfolding kind-of Run
+    quiet-mid k h l = in-run (λ (n : ℕ). P (kind-of n)) 3 6 k (c, (a, (e, tt))) h l
+
+-- ---- a mask's bits
+
+pub mask-a : (s : Shape) → eqb (mask s / 8 % 2) 1 ≡ s .a
+unfolding mask
+mask-a s = go (s .a) (s .b) (s .c) (s .m)
+  where
+    go : (a b c m : Bool) → eqb ((pick a 8 0 + pick b 4 0 + pick c 2 0 + pick m 1 0) / 8 % 2) 1 ≡ a
+    go true true true true = refl
+    go true true true false = refl
+    go true true false true = refl
+    go true true false false = refl
+    go true false true true = refl
+    go true false true false = refl
+    go true false false true = refl
+    go true false false false = refl
+    go false true true true = refl
+    go false true true false = refl
+    go false true false true = refl
+    go false true false false = refl
+    go false false true true = refl
+    go false false true false = refl
+    go false false false true = refl
+    go false false false false = refl
+
+pub mask-b : (s : Shape) → eqb (mask s / 4 % 2) 1 ≡ s .b
+unfolding mask
+mask-b s = go (s .a) (s .b) (s .c) (s .m)
+  where
+    go : (a b c m : Bool) → eqb ((pick a 8 0 + pick b 4 0 + pick c 2 0 + pick m 1 0) / 4 % 2) 1 ≡ b
+    go true true true true = refl
+    go true true true false = refl
+    go true true false true = refl
+    go true true false false = refl
+    go true false true true = refl
+    go true false true false = refl
+    go true false false true = refl
+    go true false false false = refl
+    go false true true true = refl
+    go false true true false = refl
+    go false true false true = refl
+    go false true false false = refl
+    go false false true true = refl
+    go false false true false = refl
+    go false false false true = refl
+    go false false false false = refl
+
+pub mask-c : (s : Shape) → eqb (mask s / 2 % 2) 1 ≡ s .c
+unfolding mask
+mask-c s = go (s .a) (s .b) (s .c) (s .m)
+  where
+    go : (a b c m : Bool) → eqb ((pick a 8 0 + pick b 4 0 + pick c 2 0 + pick m 1 0) / 2 % 2) 1 ≡ c
+    go true true true true = refl
+    go true true true false = refl
+    go true true false true = refl
+    go true true false false = refl
+    go true false true true = refl
+    go true false true false = refl
+    go true false false true = refl
+    go true false false false = refl
+    go false true true true = refl
+    go false true true false = refl
+    go false true false true = refl
+    go false true false false = refl
+    go false false true true = refl
+    go false false true false = refl
+    go false false false true = refl
+    go false false false false = refl
+
+pub mask-m : (s : Shape) → eqb (mask s / 1 % 2) 1 ≡ s .m
+unfolding mask
+mask-m s = go (s .a) (s .b) (s .c) (s .m)
+  where
+    go : (a b c m : Bool) → eqb ((pick a 8 0 + pick b 4 0 + pick c 2 0 + pick m 1 0) / 1 % 2) 1 ≡ m
+    go true true true true = refl
+    go true true true false = refl
+    go true true false true = refl
+    go true true false false = refl
+    go true false true true = refl
+    go true false true false = refl
+    go true false false true = refl
+    go true false false false = refl
+    go false true true true = refl
+    go false true true false = refl
+    go false true false true = refl
+    go false true false false = refl
+    go false false true true = refl
+    go false false true false = refl
+    go false false false true = refl
+    go false false false false = refl
+
+-- ---- the part, test by test
+
+module _ (r : Record) (p bits : ℕ) (e : bits ≡ mask (shape (kind-of (r .kind)))) where
+  is-a : eqb (bits / 8 % 2) 1 ≡ shape (kind-of (r .kind)) .a
+  is-a = rw e (mask-a (shape (kind-of (r .kind))))
+
+  is-b : eqb (bits / 4 % 2) 1 ≡ shape (kind-of (r .kind)) .b
+  is-b = rw e (mask-b (shape (kind-of (r .kind))))
+
+  is-c : eqb (bits / 2 % 2) 1 ≡ shape (kind-of (r .kind)) .c
+  is-c = rw e (mask-c (shape (kind-of (r .kind))))
+
+  is-m : eqb (bits / 1 % 2) 1 ≡ shape (kind-of (r .kind)) .m
+  is-m = rw e (mask-m (shape (kind-of (r .kind))))
+
+  pub role-is-a : eqb (bits / 8 % 2) 1 && eqb p (r .a) ≡ true → as-a ≡ role (rec r) p
+  unfolding role
+  role-is-a h = sym (rw (← is-a, h))
+
+  module _ (not-a : eqb (bits / 8 % 2) 1 && eqb p (r .a) ≡ false) where
+    pub role-is-b : eqb (bits / 4 % 2) 1 && eqb p (r .b) ≡ true → as-b ≡ role (rec r) p
+    unfolding role
+    role-is-b h = sym (rw (← is-a, not-a, ← is-b, h))
+
+    module _ (not-b : eqb (bits / 4 % 2) 1 && eqb p (r .b) ≡ false) where
+      pub role-is-c : eqb (bits / 2 % 2) 1 && eqb p (r .c) ≡ true → as-c ≡ role (rec r) p
+      unfolding role
+      role-is-c h = sym (rw (← is-a, not-a, ← is-b, not-b, ← is-c, h))
+
+      module _ (not-c : eqb (bits / 2 % 2) 1 && eqb p (r .c) ≡ false) where
+        pub role-is-map : eqb (bits / 1 % 2) 1 && eqb p 0 ≡ true → as-map ≡ role (rec r) p
+        unfolding role
+        role-is-map h = sym (rw (← is-a, not-a, ← is-b, not-b, ← is-c, not-c, ← is-m, h))
+
+        pub role-is-none : eqb (bits / 1 % 2) 1 && eqb p 0 ≡ false → model.none ≡ role (rec r) p
+        unfolding role
+        role-is-none h = sym (rw (← is-a, not-a, ← is-b, not-b, ← is-c, not-c, ← is-m, h))
