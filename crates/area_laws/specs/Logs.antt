@@ -14,6 +14,7 @@ use Rattle.bytes.specs.Pieces.{All}
 use Rattle.bytes.specs.Same.{same-refl}
 use Rattle.slot.specs.Codec.{Fits, record-bytes-length, read-slot-back}
 use Rattle.slot.specs.Shown.{reads-empty}
+use Rattle.history_laws.specs.Redoing.{log-back}
 use Rattle.area_laws.specs.Parts.{Wide, joined-append, joined-length, joined-blank, parts-length}
 use Rattle.area_laws.specs.Held.{Holds, holds-length, holds-fit, holds-filled, holds-read, put-next}
 
@@ -61,23 +62,6 @@ slots-append n [] more = let e : n ≡ n + 0 = omega arith in ap (λ (k : ℕ). 
 slots-append n (r ∷ log) more =
     let e : suc n + length log ≡ n + suc (length log) = omega arith in
     ap (λ (s : List Slot). full n r ∷ s) (slots-append (suc n) log more ∙ ap (λ (k : ℕ). slots-from (suc n) log ++ slots-from k more) e)
-
-pub area-length : (m : ℕ) (log : List Rec) → length log ≤ m → length (log-area m log) ≡ m
-unfolding log-area
-area-length m log h =
-    length-append (slots-from 1 log) (replicate (m - length log) empty) ∙ omega (arith, slots-length 1 log, length-replicate (m - length log) empty)
-
-pub area-records : (m : ℕ) (log : List Rec) → records-of (log-area m log) ≡ log
-unfolding log-area records-of slots-from
-area-records m log = go 1 log (m - length log)
-  where
-    none-after : (k : ℕ) → records-of (replicate k empty) ≡ []
-    none-after zero = refl
-    none-after (suc k) = refl
-
-    go : (n : ℕ) (log : List Rec) (k : ℕ) → records-of (slots-from n log ++ replicate k empty) ≡ log
-    go n [] k = none-after k
-    go n (r ∷ log) k = ap (λ (l : List Rec). r ∷ l) (go (suc n) log k)
 
 -- ---- in parts
 
@@ -158,7 +142,7 @@ module _ (m : ℕ) (log : List Rec) {area : List ℕ} (h : HoldsLog area log) (s
       ∙ filled-slots m log
 
   pub log-read-of : AllFit 1 log → records-of (read-log area) ≡ log
-  log-read-of fits = ap records-of (log-read fits) ∙ area-records m log
+  log-read-of fits = ap records-of (log-read fits) ∙ log-back m log
 
 -- An area of zeros holds no record, and shows empty slots.
 pub no-records : (k : ℕ) → HoldsLog (zeros k) []

@@ -14,6 +14,7 @@ use Rattle.bytes.specs.Patch.{patch}
 use Rattle.bytes.specs.Pieces.{All, write-all}
 use Rattle.page.specs.Fields.{Fits, NodeFits, BodyFits, page-bytes-length, read-block-back}
 use Rattle.page.specs.Areas.{pages-bytes-set}
+use Rattle.history_laws.specs.Redoing.{pages-back}
 use Rattle.area_laws.specs.Parts.{Wide, joined-length, joined-blank, parts-length, map-same}
 use Rattle.area_laws.specs.Held.{Holds, holds-itself, holds-fit, holds-filled, holds-read, put-is, put-inside}
 
@@ -110,11 +111,6 @@ blocks-back [] fits = refl
 blocks-back (x ∷ xs) fits =
     ap₂ (λ (b : Block) (bs : List Block). b ∷ bs) (read-block-back x (fits 0 (omega arith))) (blocks-back xs (λ p h. fits (suc p) (omega arith)))
 
-pub pages-of-pages : (xs : List Page) → pages-of (map page xs) ≡ xs
-unfolding page-in
-pages-of-pages [] = refl
-pages-of-pages (x ∷ xs) = ap (λ (r : List Page). x ∷ r) (pages-of-pages xs)
-
 filled-blocks : (m : ℕ) (xs : List Page) → map page xs ++ replicate (m - length (map page xs)) (page zero-page) ≡ map page (filled m xs)
 filled-blocks m xs =
     ap (λ (n : ℕ). map page xs ++ replicate (m - n) (page zero-page)) (length-map xs page)
@@ -146,7 +142,7 @@ module _ (m : ℕ) (xs : List Page) {area : List ℕ} (h : HoldsPages area xs) (
       ∙ filled-blocks m xs
 
   pub pages-read-of : AllPagesFit xs → pages-of (read-pages area) ≡ filled m xs
-  pages-read-of fits = ap pages-of (pages-read fits) ∙ pages-of-pages (filled m xs)
+  pages-read-of fits = ap pages-of (pages-read fits) ∙ pages-back (filled m xs)
 
 -- WRITING: the bytes of pages hold them, with nothing to spare.
 abbrev pub pages-hold : (xs : List Page) → HoldsPages (pages-bytes (map page xs)) xs

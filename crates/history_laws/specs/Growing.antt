@@ -24,7 +24,7 @@ use Rattle.tree_laws.specs.StepRules.{step-rules}
 use Rattle.tree_laws.specs.Test.{test-sound, rules-levels, test-complete}
 use Rattle.tree_laws.specs.Formatted.{empty-root, formatted-rules, formatted-tree-ok, formatted-numbers}
 use Rattle.update_laws.specs.Way.{lows-more}
-use Rattle.update_laws.specs.Lawful.{Lawful, here, next, lawful-append}
+use Rattle.update_laws.specs.Lawful.{Lawful, here, next, lawful-rules}
 use Rattle.page_laws.specs.Layout.{Laid}
 use Rattle.page_laws.specs.Growth.{lawful-grow}
 use Rattle.page_laws.specs.Restartable.{AllBegin, prefix-laid}
@@ -76,14 +76,6 @@ pub lawful-first : {m : ℕ} {pages : List Page} {ls ls′ : List (List Node)} (
 lawful-first {ls = ls} [] b h = (ls, here)
 lawful-first (r ∷ a) b (next k h) = let (l, x) = lawful-first a b h in (l, next k x)
 
--- It leads to pages by the rules.
-pub lawful-rules : {m : ℕ} {pages : List Page} {ls ls′ : List (List Node)} {rs : List Rec} → Lawful m pages ls rs ls′ → length pages ≤ map-bits → Rules pages ls → Lows m pages → Rules (replay m rs pages) ls′
-unfolding replay
-lawful-rules here f k l = k
-lawful-rules {m} {pages} {ls} (next {ls₁ = ls₁} {r = r} j h) f k l =
-    let e = length-redo-record m r pages in
-    lawful-rules h (omega arith) (step-rules m pages f l ls ls₁ r j k) (lows-more m r pages l)
-
 names-grow : (n m : ℕ) (log : List Rec) → n ≤ m → NamesOk n log → NamesOk m log
 unfolding NamesOk names-pages
 names-grow n m [] l h = tt
@@ -119,13 +111,13 @@ module _ (n m : ℕ) (least : 2 ≤ n) (longer : n ≤ m) (most : m ≤ map-bits
 
   -- The same levels, whatever the count of pages.
   grown-rules : (log : List Rec) (ls : List (List Node)) → Lawful 1 (formatted-pages n) (levels-of (formatted-pages n)) log ls → Rules (pages-after m log) ls
-  grown-rules log ls w = subst (λ z. Rules z ls) (sym (after-is m log)) (lawful-rules (grown-lawful log ls w) few rules lows)
+  grown-rules log ls w = subst (λ z. Rules z ls) (sym (after-is m log)) (lawful-rules (grown-lawful log ls w) few rules lows .0)
 
   lawful-levels : (log : List Rec) (ls : List (List Node)) → Lawful 1 (formatted-pages n) (levels-of (formatted-pages n)) log ls → levels-of (pages-after n log) ≡ ls
   lawful-levels log ls w =
       let e = formatted-length n least in
       rules-levels (pages-after n log) ls
-      (subst (λ z. Rules z ls) (sym (after-is n log)) (lawful-rules w (omega arith) (test-sound (formatted-pages n) (formatted-tree-ok n (omega arith))) (λ p h. let z = formatted-numbers n p in omega arith)))
+      (subst (λ z. Rules z ls) (sym (after-is n log)) (lawful-rules w (omega arith) (test-sound (formatted-pages n) (formatted-tree-ok n (omega arith))) (λ p h. let z = formatted-numbers n p in omega arith) .0))
 
   grown-core : (a : List Rec) (ls : List (List Node)) → Lawful 1 (formatted-pages n) (levels-of (formatted-pages n)) a ls → Core n (run-after n a) (slides-of a) → Core m (run-after m a) (slides-of a)
   unfolding leaf-records

@@ -5,3 +5,4 @@ pub mod Growth
 pub mod Restartable
 pub mod UpdatePages
 pub mod FormattedPages
+pub mod FitLayout

@@ -25,22 +25,13 @@ use Rattle.history_laws.specs.Core.{Core, NextRecord}
 use Rattle.history_laws.specs.Trail.{Trail, stay, more, trail-core}
 use Rattle.page.specs.Fields.{read-block-back}
 use Rattle.slot.specs.Codec.{Fits as RecordFits, read-slot-back}
+use Rattle.area_laws.specs.Logs.{AllFit as RecordsFit, fit-append}
 use Rattle.range_laws.specs.Each.{Each}
 use Rattle.range_laws.specs.Batches.{Valued, values-tell, Lasts, lasts-tell, of-batch, Says, chains-say}
 use Rattle.range_laws.specs.Records.{AllFit, step-fits}
 use Rattle.range_laws.specs.Parts.{step-apart, pages-fit}
 
 -- ---- the log's records
-
--- Records from number m on, each with its number.
-unfoldable pub RecordsFit : ℕ → List Rec → Type 0
-RecordsFit m [] = Unit {0}
-RecordsFit m (r ∷ l) = RecordFits m r × RecordsFit (suc m) l
-
-pub records-append : (m : ℕ) (a b : List Rec) → RecordsFit m a → RecordsFit (m + length a) b → RecordsFit m (a ++ b)
-unfolding RecordsFit
-records-append m [] b h k = subst (λ z. RecordsFit z b) (add-zero m) k
-records-append m (r ∷ a) b h k = (h .0, records-append (suc m) a b (h .1) (subst (λ z. RecordsFit z b) (add-suc m (length a) ∙ sym (suc-add m (length a))) k))
 
 -- The record at a place.
 pub record-at : (m : ℕ) (log : List Rec) (d : Rec) (i : ℕ) → i < length log → RecordsFit m log → RecordFits (m + i) (getD log i d)
@@ -91,7 +82,7 @@ ranged-more n most s sl sl′ r c x low g =
     let tells = open-more (s .log) r in
     record {
       pages = pages-fit (s .due) r (s .pages) f (step-apart (s .pages) (levels-of (s .pages)) (x .after) r (x .step) k) (c .laid) (g .pages);
-      records = records-append 1 (s .log) (r ∷ []) (g .records) (subst (λ m. RecordFits m r) num f, tt);
+      records = fit-append 1 (s .log) (r ∷ []) (g .records) (subst (λ m. RecordFits m r) num f, tt);
       values = subst (Each Valued) (sym tells) (values-tell (r .kind) (suc (length (s .log))) r (open-batches (s .log)) (omega arith) (g .values));
       lasts = subst (λ m. Each (Lasts m) (open-batches (s .log ++ r ∷ []))) (sym len) (subst (Each (Lasts (suc (length (s .log))))) (sym tells) (lasts-tell (r .kind) (length (s .log)) r (open-batches (s .log)) (g .lasts)));
     }

@@ -20,7 +20,7 @@ use Rattle.history_laws.specs.Core.{Core}
 use Rattle.history_laws.specs.History.{History, history-now}
 use Rattle.history_laws.specs.Growing.{history-grow}
 use Rattle.history_laws.specs.Redoing.{Image}
-use Rattle.range_laws.specs.Ranged.{RecordsFit, Ranged}
+use Rattle.range_laws.specs.Ranged.{Ranged}
 use Rattle.range_laws.specs.Histories.{RangedHistory, ranged-now, behind-fits}
 use Rattle.range_laws.specs.Growing.{after-longer, ranged-history-grow}
 use Rattle.area_laws.specs.Lengths.{Lengths}
@@ -29,14 +29,8 @@ use Rattle.area_laws.specs.Logs.{AllFit, HoldsLog, log-fits, log-read, empty-lo
 use Rattle.call_laws.specs.LiveAreas.{Holds, side-after}
 use Rattle.recovery_laws.specs.Invariant.{Sure, Live}
 
--- Records that fit, said of an area.
-records-fit : (m : ℕ) (log : List Rec) → RecordsFit m log → AllFit m log
-unfolding RecordsFit AllFit
-records-fit m [] h = tt
-records-fit m (r ∷ log) h = (h .0, records-fit (suc m) log (h .1))
-
 history-fits : (n : ℕ) (log : List Rec) → RangedHistory n log → AllFit 1 log
-history-fits n log h = records-fit 1 log (ranged-now n log h .records)
+history-fits n log h = ranged-now n log h .records
 
 no-base : (p : ℕ) → 2 ≤ p → base p ≡ zero-page
 unfolding base

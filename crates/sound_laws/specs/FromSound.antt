@@ -66,7 +66,7 @@ slots-rows n m (full k r ∷ s) e =
     ((b, x), (c, y))
 slots-rows n m (other b ∷ s) e = (tt, tt)
 
-numbers-low : (last : ℕ) (xs : List Page) → numbers-ok last xs ≡ true → (p : ℕ) → p < length xs → at xs p .lsn < suc last
+pub numbers-low : (last : ℕ) (xs : List Page) → numbers-ok last xs ≡ true → (p : ℕ) → p < length xs → at xs p .lsn < suc last
 unfolding numbers-ok every
 numbers-low last [] e p h = absurd (omega arith)
 numbers-low last (x ∷ xs) e zero h = let y = true-le (x .lsn) last (and-true (leb (x .lsn) last) _ e .0) in omega arith

@@ -7,4 +7,6 @@ pub mod SoundAfter
 pub mod SoundKept
 pub mod Kept
 pub mod SortedList
-pub mod Renewed
+pub mod Formatted
+pub mod AcceptedPages
+pub mod Restarted

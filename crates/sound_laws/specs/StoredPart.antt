@@ -22,7 +22,7 @@ unfolding same-bytes
 bytes-same [] = refl
 bytes-same (x ∷ b) = and-both (eq-true x x refl) (bytes-same b)
 
-slot-same : (x : Slot) → same-slot x x ≡ true
+pub slot-same : (x : Slot) → same-slot x x ≡ true
 unfolding same-slot
 slot-same empty = refl
 slot-same (full n r) = bytes-same (record-bytes n r)

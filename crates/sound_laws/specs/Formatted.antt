@@ -1,41 +1,31 @@
--- FORMAT AND RESTART LEAVE SOUND AREAS AND A SOUND DESK: a formatting whatever was there, a restart of every stored history.
-use Prim.Native.Nat.{ℕ, zero, suc, _+_, _-_, _*_, _≤_, _<_}
+-- FORMAT LEAVES SOUND AREAS AND A SOUND DESK, whatever was there.
+use Prim.Native.Nat.{ℕ, suc, _+_, _-_, _≤_}
 use mathlib.Core.Path.{_≡_, refl, sym, ap, _∙_, subst}
-use mathlib.Core.Bool.{Bool, true, false, _&&_}
-use mathlib.Core.List.{List, [], _∷_, _++_, append-nil, append-assoc, map}
+use mathlib.Core.Bool.{true}
+use mathlib.Core.List.{List, [], _∷_, _++_, append-assoc, map}
 use native.Mathlib.Omega.{arith}
-use lib.ListN.{length, take, set, replicate, length-append, length-replicate}
-use lib.Seq.{take-all}
-use Rattle.base.specs.Tests.{and-both}
-use Rattle.layout.specs.declared.Entry.{Entry}
+use lib.ListN.{length, set, replicate, length-append, length-replicate}
 use Rattle.layout.specs.declared.Desk.{Desk}
-use Rattle.layout.specs.Desks.{empty-desk, eight-rows}
+use Rattle.layout.specs.Desks.{eight-rows}
 use Rattle.layout.specs.Numbers.{tab}
 use Rattle.layout.specs.Pages.{Page, map-bits}
 use Rattle.layout.specs.PageBytes.{page}
-use Rattle.layout.specs.Records.{Rec}
 use Rattle.layout.specs.RecordBytes.{Slot, empty}
-use Rattle.model.specs.Areas.{Side, Areas, Store, store-page, store-slot, store, store-all, slot-stores, log-stores}
-use Rattle.model.specs.Answers.{passed}
-use Rattle.model.specs.Log.{slot-of, slots-from, log-area}
-use Rattle.model.specs.Batches.{open-batches, told, desk-of, row-of, pending-count}
-use Rattle.model.specs.TreeRules.{used-pages}
+use Rattle.model.specs.Areas.{Side, Areas, Store, store-page, store, store-all, slot-stores}
+use Rattle.model.specs.Log.{slots-from, log-area}
+use Rattle.model.specs.Batches.{open-batches, told, desk-of, pending-count}
 use Rattle.model.specs.Update.{Run}
-use Rattle.model.specs.Sound.{sound, same-slot, same-slots}
+use Rattle.model.specs.Sound.{sound, same-slots}
 use Rattle.model.specs.Calls.{run-side, formatted-pages, page-stores, format-stores, format-areas}
-use Rattle.model.specs.Restart.{restarted, redone, stable-log, restart-checks, restart-by, restart-areas}
-use Rattle.model.specs.OnBytes.{Call, format, restart, outcome}
+use Rattle.model.specs.OnBytes.{format, outcome}
 use Rattle.history_laws.specs.Start.{pages-after}
 use Rattle.history_laws.specs.Core.{Core}
-use Rattle.history_laws.specs.History.{History, Standing, history-now, core-same, run-after}
+use Rattle.history_laws.specs.History.{history-now, core-same, run-after}
 use Rattle.history_laws.specs.Growing.{start-history}
-use Rattle.history_laws.specs.Redoing.{Image, log-area-length, log-back}
+use Rattle.history_laws.specs.Redoing.{log-back}
 use Rattle.model.specs.Redo.{replay}
 use Rattle.ledger_laws.specs.Telling.{slides-of}
-use Rattle.call_laws.specs.Restarting.{Finished, finished, passed-stop, restart-work, restart-stores, restart-desk, restart-slots, restart-within}
-use Rattle.history_laws.specs.Trail.{trail-longer}
-use Rattle.history_laws.specs.Redoing.{stable-log-is}
-use Rattle.sound_laws.specs.StoredPart.{Stores, stores-ok, stores-all, stores-more, slots-same}
+use Rattle.sound_laws.specs.StoredPart.{Stores, stores-ok, slots-same}
 use Rattle.sound_laws.specs.ToSound.{sound-again}
 use Rattle.sound_laws.specs.SoundAfter.{Reserved, used-within, reserves-hold}
 use Rattle.sound_laws.specs.SoundKept.{areas-after}
@@ -119,50 +109,3 @@ module _ (a : Areas) (d : Desk) (least : 2 ≤ length (a .work .pages)) (few : l
   format-sound =
       (λ i. sound (record { work = sym side-is i; stable = stable }) (sym desk-is i))
       ∙ sound-again (length (a .work .pages)) few t (slides-of []) core fits stable 0 (stores-ok (record { work = run-side t; stable = stable }) (desk-of (t .log) 0) (t .log) (log-back (t .slots) (t .log)) stored) (reserves-hold (t .slots) (t .pages) (t .log) (open-batches (t .log)) reserves)
-
--- ---- restart
-
-module _ (n m : ℕ) (least : 2 ≤ n) (most : n ≤ map-bits) (log : List Rec) (h : History n log) (a : Areas) (d : Desk) (i : Image n m log (a .stable)) (z : restarted a .stop ≡ 0) where
-  f : Finished n m least most log h a d i
-  f = finished n m least most log h a d i z
-
-  c : Core n (restarted a) (slides-of log)
-  c = f .standing .core
-
-  r : List Rec
-  r = trail-longer (f .trail) .recs
-
-  longer : restarted a .log ≡ log ++ r
-  unfolding r redone
-  longer = let g = trail-longer (f .trail) in g .log ∙ ap (_++ g .recs) (stable-log-is n m least most log h a i)
-
-  room : length (restarted a .log) ≤ restarted a .slots
-  room = let w = restart-within n m least most log h a d i in let e = restart-slots n m least most log h a d i in omega arith
-
-  held : Stores (a .stable) (length log) log
-  held =
-      let l : length (a .stable .log) ≡ m = ap length (i .logged) ∙ log-area-length m log (i .fits) in
-      (omega arith, subst (λ s. same-slots (a .stable .log) s ≡ true) (i .logged ∙ (λ j. log-area (sym l j) (sym (take-all (length log) log (omega arith)) j))) (slots-same (a .stable .log)))
-
-  stored-now : Stores (store-all (log-stores (length log) (restarted a .log)) (a .stable)) (length (restarted a .log)) (restarted a .log)
-  stored-now =
-      let l : length (a .stable .log) ≡ m = ap length (i .logged) ∙ log-area-length m log (i .fits) in
-      let w = restart-within n m least most log h a d i in
-      stores-all (a .stable) (length log) (restarted a .log) (omega arith) (subst (Stores (a .stable) (length log)) (sym longer) (stores-more (a .stable) (length log) log r held))
-
-  -- Nothing is open, so that nothing is reserved.
-  free-all : Reserved (restarted a .slots) (restarted a .pages) (restarted a .log) (open-batches (restarted a .log))
-  unfolding pending-count
-  free-all =
-      let u = used-within (restarted a .pages) in
-      let w = room in
-      subst (Reserved (restarted a .slots) (restarted a .pages) (restarted a .log)) (sym (f .closed)) (record { slots-free = omega arith; pages-free = omega arith })
-
-  -- A RESTARTED REGISTER IS SOUND.
-  pub restart-sound : sound (areas-after restart a d) (outcome restart a d .desk) ≡ true
-  unfolding run-side desk-of
-  restart-sound =
-      let s : Side = store-all (log-stores (length log) (restarted a .log)) (a .stable) in
-      (λ j. sound (record { work = restart-work n m least most log h a d i z j; stable = store-all (restart-stores n m least most log h a d i z j) (a .stable) }) (restart-desk n m least most log h a d i z j))
-      ∙ sound-again n most (restarted a) (slides-of log) c room s (length (restarted a .log))
-      (stores-ok (record { work = run-side (restarted a); stable = s }) (desk-of (restarted a .log) (length (restarted a .log))) (restarted a .log) (log-back (restarted a .slots) (restarted a .log)) stored-now) (reserves-hold (restarted a .slots) (restarted a .pages) (restarted a .log) (open-batches (restarted a .log)) free-all)
