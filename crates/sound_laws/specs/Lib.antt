@@ -10,3 +10,4 @@ pub mod SortedList
 pub mod Formatted
 pub mod AcceptedPages
 pub mod Restarted
+pub mod OfBytes
