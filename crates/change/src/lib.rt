@@ -178,7 +178,7 @@ pub fn without_first(es: [Entry; 14], n: usize, m: usize) -> EntryList
 }
 
 // 01 on 13: "into A if not above key, else into B".
-fn into_a(r: Record) -> bool
+pub fn into_a(r: Record) -> bool
     ensures { λ t. ⌜ t ≡ into-a (rec r) ⌝ }
 {
     if r.count == 0 {
@@ -266,7 +266,7 @@ fn renew(x: Page, right: u32, high: u32, l: EntryList) -> Page
 }
 
 // 01: "0 free, 1 leaf, 2 index": level 0 is the leaves'.
-fn kind_at(level: u32) -> u32
+pub fn kind_at(level: u32) -> u32
     ensures { λ k. ⌜ (page-kind k ≡ kind-at level) × (k < 3) ⌝ }
 {
     if level == 0 {
@@ -445,7 +445,7 @@ fn has_part(parts: u32, bit: u32, a: u32, p: usize) -> bool
 }
 
 // The page's part in the record: 0 none, 1 A, 2 B, 3 C, 4 the map. A page that a record names twice has its first part.
-fn role_of(r: Record, p: usize) -> u32
+pub fn role_of(r: Record, p: usize) -> u32
     ensures { λ t. ⌜ role-at t ≡ role (rec r) p ⌝ }
 {
     let bits = parts(r.kind);

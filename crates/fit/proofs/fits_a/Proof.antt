@@ -1,0 +1,123 @@
+-- `fits_a`: arm by arm.
+use borrow.Author.Needs.{needs}
+use Rattle.fit.proofs.fits_a.Statement.{statement}
+use Rattle.fit.proofs.fits_a.Tie as tie
+use mathlib.Core.Path.{refl}
+use Rattle.layout.specs.Records.{kind-of}
+use Rattle.fit.specs.Rows.{a-at, a-quiet}
+
+size-of-requires : tie.Need-size-of-requires
+size-of-requires c κs = search needs
+
+insert-fits-requires : tie.Need-insert-fits-requires
+insert-fits-requires c κs = search needs
+
+delete-fits-requires : tie.Need-delete-fits-requires
+delete-fits-requires c κs = search needs
+
+undo-insert-fits-requires : tie.Need-undo-insert-fits-requires
+undo-insert-fits-requires c κs = search needs
+
+insert-fits-requires-2 : tie.Need-insert-fits-requires-2
+insert-fits-requires-2 c κs = search needs
+
+split-fits-requires : tie.Need-split-fits-requires
+split-fits-requires c κs = search needs
+
+link-row-fits-requires : tie.Need-link-row-fits-requires
+link-row-fits-requires c κs = search needs
+
+unlink-fits-requires : tie.Need-unlink-fits-requires
+unlink-fits-requires c κs = search needs
+
+merge-fits-requires : tie.Need-merge-fits-requires
+merge-fits-requires c κs = search needs
+
+redistribute-fits-requires : tie.Need-redistribute-fits-requires
+redistribute-fits-requires c κs = search needs
+
+raise-fits-requires : tie.Need-raise-fits-requires
+raise-fits-requires c κs = search needs
+
+lower-fits-requires : tie.Need-lower-fits-requires
+lower-fits-requires c κs = search needs
+
+returns : tie.Need-returns
+unfolding kind-of
+returns c = let a = c .before .before .before .args in a-at (a .r) (a .x) _ 2 (c .before .match .keys1) (c .insert-fits .ensures .0)
+
+returns-2 : tie.Need-returns-2
+unfolding kind-of
+returns-2 c = let a = c .before .before .before .args in a-at (a .r) (a .x) _ 3 (c .before .match .keys2) (c .delete-fits .ensures)
+
+returns-3 : tie.Need-returns-3
+unfolding kind-of
+returns-3 c = let a = c .before .before .before .args in a-at (a .r) (a .x) _ 4 (c .before .match .keys3) (c .undo-insert-fits .ensures)
+
+returns-4 : tie.Need-returns-4
+unfolding kind-of
+returns-4 c = let a = c .before .before .before .args in a-at (a .r) (a .x) _ 5 (c .before .match .keys4) (c .insert-fits2 .ensures .1)
+
+returns-5 : tie.Need-returns-5
+unfolding kind-of
+returns-5 c = let a = c .before .before .before .args in a-at (a .r) (a .x) _ 9 (c .before .match .keys5) (c .split-fits .ensures)
+
+returns-6 : tie.Need-returns-6
+unfolding kind-of
+returns-6 c = let a = c .before .before .before .args in a-at (a .r) (a .x) _ 10 (c .before .match .keys6) (c .link-row-fits .ensures)
+
+returns-7 : tie.Need-returns-7
+unfolding kind-of
+returns-7 c = let a = c .before .before .before .args in a-at (a .r) (a .x) _ 11 (c .before .match .keys7) (c .unlink-fits .ensures)
+
+returns-8 : tie.Need-returns-8
+unfolding kind-of
+returns-8 c = let a = c .before .before .before .args in a-at (a .r) (a .x) _ 12 (c .before .match .keys8) (c .merge-fits .ensures)
+
+returns-9 : tie.Need-returns-9
+unfolding kind-of
+returns-9 c = let a = c .before .before .before .args in a-at (a .r) (a .x) _ 13 (c .before .match .keys9) (c .redistribute-fits .ensures)
+
+returns-10 : tie.Need-returns-10
+unfolding kind-of
+returns-10 c = let a = c .before .before .before .args in a-at (a .r) (a .x) _ 14 (c .before .match .keys10) (c .raise-fits .ensures)
+
+returns-11 : tie.Need-returns-11
+unfolding kind-of
+returns-11 c = let a = c .before .before .before .args in a-at (a .r) (a .x) _ 15 (c .before .match .keys11) (c .lower-fits .ensures)
+
+returns-12 : tie.Need-returns-12
+returns-12 c =
+    let a = c .before .before .args in
+    let r = c .match .rest in
+    a-quiet (a .r) (a .x) _ refl (r .0 .0 .0 .0 .0 .0 .0 .0 .0 .0 .1) (r .0 .0 .0 .0 .0 .0 .0 .0 .0 .1) (r .0 .0 .0 .0 .0 .0 .0 .0 .1) (r .0 .0 .0 .0 .0 .0 .0 .1)
+    (r .0 .0 .0 .0 .0 .0 .1) (r .0 .0 .0 .0 .0 .1) (r .0 .0 .0 .0 .1) (r .0 .0 .0 .1) (r .0 .0 .1) (r .0 .1) (r .1)
+
+pub fits-a-spec : {M : Type 1} → statement M
+fits-a-spec =
+    tie.close
+    (tie.spec
+    size-of-requires
+    insert-fits-requires
+    delete-fits-requires
+    undo-insert-fits-requires
+    insert-fits-requires-2
+    split-fits-requires
+    link-row-fits-requires
+    unlink-fits-requires
+    merge-fits-requires
+    redistribute-fits-requires
+    raise-fits-requires
+    lower-fits-requires
+    returns
+    returns-2
+    returns-3
+    returns-4
+    returns-5
+    returns-6
+    returns-7
+    returns-8
+    returns-9
+    returns-10
+    returns-11
+    returns-12)

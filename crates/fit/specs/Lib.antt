@@ -1,0 +1,4 @@
+pub mod Tests
+pub mod Pages
+pub mod Rows
+pub mod Shares
