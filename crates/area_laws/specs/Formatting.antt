@@ -15,7 +15,7 @@ use Rattle.model.specs.Areas.{slot-stores}
 use Rattle.model.specs.Calls.{formatted-pages, page-stores, format-stores}
 use Rattle.model.specs.OnBytes.{Lent, put-part, pages-bytes, log-bytes, lengths-ok, store-all-bytes}
 use Rattle.bytes.specs.Patch.{patch, patch-whole}
-use Rattle.history_laws.specs.Start.{formatted-length}
+use Rattle.area_laws.specs.Typed.{formatted-length}
 use Rattle.area_laws.specs.Parts.{wide-blank}
 use Rattle.area_laws.specs.Held.{holds-itself, put-is}
 use Rattle.area_laws.specs.Pages.{HoldsPages, filled, pages-length}

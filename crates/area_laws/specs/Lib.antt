@@ -1,3 +1,4 @@
+pub mod Typed
 pub mod Parts
 pub mod Held
 pub mod Pages

@@ -14,7 +14,7 @@ use Rattle.bytes.specs.Pieces.{All}
 use Rattle.bytes.specs.Same.{same-refl}
 use Rattle.slot.specs.Codec.{Fits, record-bytes-length, read-slot-back}
 use Rattle.slot.specs.Shown.{reads-empty}
-use Rattle.history_laws.specs.Redoing.{log-back}
+use Rattle.area_laws.specs.Typed.{slots-length, log-back}
 use Rattle.area_laws.specs.Parts.{Wide, joined-append, joined-length, joined-blank, parts-length}
 use Rattle.area_laws.specs.Held.{Holds, holds-length, holds-fit, holds-filled, holds-read, put-next}
 
@@ -50,11 +50,6 @@ fit-take n (suc j) [] a = tt
 fit-take n (suc j) (r ∷ log) a = (a .0, fit-take (suc n) j log (a .1))
 
 -- ---- slots
-
-pub slots-length : (n : ℕ) (log : List Rec) → length (slots-from n log) ≡ length log
-unfolding slots-from
-slots-length n [] = refl
-slots-length n (r ∷ log) = ap suc (slots-length (suc n) log)
 
 pub slots-append : (n : ℕ) (log more : List Rec) → slots-from n (log ++ more) ≡ slots-from n log ++ slots-from (n + length log) more
 unfolding slots-from

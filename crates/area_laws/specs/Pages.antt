@@ -14,7 +14,7 @@ use Rattle.bytes.specs.Patch.{patch}
 use Rattle.bytes.specs.Pieces.{All, write-all}
 use Rattle.page.specs.Fields.{Fits, NodeFits, BodyFits, page-bytes-length, read-block-back}
 use Rattle.page.specs.Areas.{pages-bytes-set}
-use Rattle.history_laws.specs.Redoing.{pages-back}
+use Rattle.area_laws.specs.Typed.{pages-back}
 use Rattle.area_laws.specs.Parts.{Wide, joined-length, joined-blank, parts-length, map-same}
 use Rattle.area_laws.specs.Held.{Holds, holds-itself, holds-fit, holds-filled, holds-read, put-is, put-inside}
 

@@ -15,7 +15,8 @@ use Rattle.model.specs.OnBytes.{Lent, log-bytes, store-bytes, store-all-bytes}
 use Rattle.page.specs.Fields.{page-bytes-length}
 use Rattle.area_laws.specs.Held.{holds-length, put-length}
 use Rattle.area_laws.specs.Pages.{HoldsPages, pages-length, pages-put}
-use Rattle.area_laws.specs.Logs.{HoldsLog, wide-slots, slots-length, slots-bytes-length, log-put}
+use Rattle.area_laws.specs.Logs.{HoldsLog, wide-slots, slots-bytes-length, log-put}
+use Rattle.area_laws.specs.Typed.{slots-length}
 use Rattle.area_laws.specs.Lengths.{Lengths, lengths-kept}
 use Rattle.area_laws.specs.Stores.{stores-append, slot-stores-bytes}
 

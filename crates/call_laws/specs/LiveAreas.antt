@@ -24,7 +24,7 @@ use Rattle.model.specs.Calls.{run-of, run-side}
 use Rattle.ledger_laws.specs.Telling.{slides-of}
 use Rattle.history_laws.specs.Start.{pages-after, length-after}
 use Rattle.history_laws.specs.History.{History, history-now, run-after, core-same, Standing}
-use Rattle.history_laws.specs.Redoing.{pages-back, log-back, log-area-length}
+use Rattle.area_laws.specs.Typed.{pages-back, log-back, log-area-length}
 
 -- The working side that holds a log, of n pages and m slots.
 abbrev pub side-after : ℕ → ℕ → List Rec → Side

@@ -33,7 +33,8 @@ use Rattle.slots_laws.specs.Restarting.{restarted-cases, restarted-slots, resta
 use Rattle.history_laws.specs.Trail.{Trail, trail-longer}
 use Rattle.history_laws.specs.Settling.{settle-trail}
 use Rattle.history_laws.specs.History.{History, Standing, trail-standing, trail-fixed}
-use Rattle.history_laws.specs.Redoing.{Image, image-layouts, image-log, image-redo-fits, image-tree, image-pending, redone-standing, stable-log-is, log-area-length}
+use Rattle.history_laws.specs.Redoing.{Image, image-layouts, image-log, image-redo-fits, image-tree, image-pending, redone-standing, stable-log-is}
+use Rattle.area_laws.specs.Typed.{log-area-length}
 use Rattle.call_laws.specs.Stories.{story, sheets-of}
 use Rattle.call_laws.specs.Passing.{is-commit, Walk, calm, Stored, the-log, Follows, quietly, standing-slides}
 

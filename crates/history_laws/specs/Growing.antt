@@ -32,7 +32,8 @@ use Rattle.page_laws.specs.FormattedPages.{formatted-laid}
 use Rattle.ledger_laws.specs.Small.{Small}
 use Rattle.ledger_laws.specs.Settles.{Settles, settles-none}
 use Rattle.ledger_laws.specs.Telling.{slides-of, slides-from}
-use Rattle.history_laws.specs.Start.{base, formatted-at, formatted-length, pages-after, after-is, length-after, after-lows}
+use Rattle.area_laws.specs.Typed.{formatted-length}
+use Rattle.history_laws.specs.Start.{base, formatted-at, pages-after, after-is, length-after, after-lows}
 use Rattle.history_laws.specs.Core.{Core, RowsOk, NamesOk}
 use Rattle.history_laws.specs.History.{History, run-after}
 

@@ -24,6 +24,7 @@ use Rattle.model.specs.Pending.{pending-ok}
 use Rattle.model.specs.Areas.{Side, Areas, pages-of, page-in, blocks-ok}
 use Rattle.model.specs.Sound.{layouts-ok, numbers-ok, log-ok}
 use Rattle.model.specs.Restart.{stable-pages, stable-log, redone-pages, redone}
+use Rattle.area_laws.specs.Typed.{pages-back, log-back, formatted-length}
 use Rattle.redo_laws.specs.Area.{length-replay}
 use Rattle.redo_laws.specs.Current.{page-run, Behind, Current, redo-current, current-unique, behind-numbers}
 use Rattle.tree_laws.specs.StepParts.{Lows}
@@ -35,39 +36,9 @@ use Rattle.page_laws.specs.FormattedPages.{formatted-laid, formatted-clean}
 use Rattle.page_laws.specs.Restartable.{behind-laid, laid-blocks, lawful-slots}
 use Rattle.ledger_laws.specs.PendingRule.{settles-pending}
 use Rattle.ledger_laws.specs.Telling.{slides-of}
-use Rattle.history_laws.specs.Start.{base, base-number, formatted-at, formatted-length, pages-after, after-is, length-after, after-current, after-lows}
+use Rattle.history_laws.specs.Start.{base, base-number, formatted-at, pages-after, after-is, length-after, after-current, after-lows}
 use Rattle.history_laws.specs.Core.{Core}
 use Rattle.history_laws.specs.History.{History, history-now, run-after, core-same, Standing}
-
--- ---- typed areas read back
-
-pub pages-back : (xs : List Page) → pages-of (map page xs) ≡ xs
-unfolding page-in
-pages-back [] = refl
-pages-back (x ∷ xs) = ap (x ∷_) (pages-back xs)
-
-pub records-back : (m k : ℕ) (log : List Rec) → records-of (slots-from m log ++ replicate k empty) ≡ log
-unfolding records-of slots-from
-records-back m zero [] = refl
-records-back m (suc k) [] = refl
-records-back m k (r ∷ log) = ap (r ∷_) (records-back (suc m) k log)
-
-pub log-back : (m : ℕ) (log : List Rec) → records-of (log-area m log) ≡ log
-unfolding log-area
-log-back m log = records-back 1 (m - length log) log
-
-slots-length : (m : ℕ) (log : List Rec) → length (slots-from m log) ≡ length log
-unfolding slots-from
-slots-length m [] = refl
-slots-length m (r ∷ log) = ap suc (slots-length (suc m) log)
-
-pub log-area-length : (m : ℕ) (log : List Rec) → length log ≤ m → length (log-area m log) ≡ m
-unfolding log-area
-log-area-length m log h =
-    let a = length-append (slots-from 1 log) (replicate (m - length log) empty) in
-    let b = slots-length 1 log in
-    let c = length-replicate (m - length log) empty in
-    omega arith
 
 pub numbers-true : (last : ℕ) (xs : List Page) → ((p : ℕ) → p < length xs → at xs p .lsn ≤ last) → numbers-ok last xs ≡ true
 unfolding numbers-ok every

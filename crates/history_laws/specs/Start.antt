@@ -9,6 +9,7 @@ use Rattle.layout.specs.Pages.{Page, at, zero-page, node-at, map-page, first-ma
 use Rattle.layout.specs.Records.{Rec}
 use Rattle.model.specs.Redo.{replay, redo-record}
 use Rattle.model.specs.Calls.{formatted-pages}
+use Rattle.area_laws.specs.Typed.{formatted-length}
 use Rattle.redo_laws.specs.Area.{length-replay, replay-append}
 use Rattle.redo_laws.specs.Current.{Current, Behind, behind-more, base-current, redo-current, current-behind, current-numbers}
 use Rattle.tree_laws.specs.StepParts.{Lows}
@@ -35,10 +36,6 @@ formatted-at n (suc (suc p)) = unused (n - 2) p
     unused zero q = refl
     unused (suc m) zero = refl
     unused (suc m) (suc q) = unused m q
-
-pub formatted-length : (n : ℕ) → 2 ≤ n → length (formatted-pages n) ≡ n
-unfolding formatted-pages
-formatted-length n h = let e = length-replicate (n - 2) zero-page in omega arith
 
 -- THE PAGES THAT A LOG LEADS TO, of n pages.
 unfoldable pub pages-after : ℕ → List Rec → List Page

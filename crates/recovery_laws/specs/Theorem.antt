@@ -30,7 +30,8 @@ use Rattle.recovery.specs.Demand3.{Demand3, Recovers, WantsExactly, FinishesOrW
 use Rattle.redo_laws.specs.Current.{Behind, current-behind, base-current}
 use Rattle.ledger_laws.specs.Telling.{slides-of, slides-from}
 use Rattle.slots_laws.specs.Restarting.{restarted-cases, restarted-due, restarted-finishes, restarted-wants-slots, restarted-wants-pages, restarted-wants-slots-first, some-slots-do}
-use Rattle.history_laws.specs.Start.{base, formatted-at, formatted-length, pages-after}
+use Rattle.history_laws.specs.Start.{base, formatted-at, pages-after}
+use Rattle.area_laws.specs.Typed.{formatted-length}
 use Rattle.history_laws.specs.Core.{Core}
 use Rattle.history_laws.specs.History.{History, Standing}
 use Rattle.history_laws.specs.Growing.{start-history}

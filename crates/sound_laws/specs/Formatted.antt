@@ -22,7 +22,7 @@ use Rattle.history_laws.specs.Start.{pages-after}
 use Rattle.history_laws.specs.Core.{Core}
 use Rattle.history_laws.specs.History.{history-now, core-same, run-after}
 use Rattle.history_laws.specs.Growing.{start-history}
-use Rattle.history_laws.specs.Redoing.{log-back}
+use Rattle.area_laws.specs.Typed.{log-back}
 use Rattle.model.specs.Redo.{replay}
 use Rattle.ledger_laws.specs.Telling.{slides-of}
 use Rattle.sound_laws.specs.StoredPart.{Stores, stores-ok, slots-same}

@@ -39,7 +39,7 @@ use Rattle.slots_laws.specs.Restarting.{restarted-cases, restarted-slots, resta
 use Rattle.history_laws.specs.Core.{Core}
 use Rattle.history_laws.specs.Trail.{Trail, trail-core, trail-longer}
 use Rattle.history_laws.specs.Settling.{settle-trail}
-use Rattle.history_laws.specs.Redoing.{log-back}
+use Rattle.area_laws.specs.Typed.{log-back}
 use Rattle.call_laws.specs.Checks.{none-broken, kept-check}
 use Rattle.sound_laws.specs.FromSound.{side-laid, slots-rows, numbers-low, leaves-rise}
 use Rattle.sound_laws.specs.StoredPart.{Stores, stores-ok, stores-all, stores-more, slot-same}

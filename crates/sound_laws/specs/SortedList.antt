@@ -35,7 +35,7 @@ use Rattle.update_laws.specs.Laws
 use Rattle.update_laws.specs.Laws.{Ready, Kept, put-law, remove-law}
 use Rattle.update_laws.specs.Fetching.{fetched-is, next-above-is}
 use Rattle.page_laws.specs.Layout.{Laid, map-laid}
-use Rattle.history_laws.specs.Redoing.{pages-back}
+use Rattle.area_laws.specs.Typed.{pages-back}
 use Rattle.call_laws.specs.Checks.{none-broken, kept-check, sound-parts, live-batch, absent-of, present-of}
 use Rattle.sound_laws.specs.FromSound.{side-laid, sound-lows}
 use Rattle.sound_laws.specs.SoundAfter.{used-within}

@@ -19,7 +19,7 @@ use Rattle.model.specs.Sound.{sound, reserve, reserves-ok, work-pages, work-log
 use Rattle.model.specs.Log.{records-of}
 use Rattle.model.specs.Calls.{run-of, run-side}
 use Rattle.history_laws.specs.Core.{Core}
-use Rattle.history_laws.specs.Redoing.{log-back}
+use Rattle.area_laws.specs.Typed.{log-back}
 use Rattle.call_laws.specs.Checks.{sound-parts}
 use Rattle.sound_laws.specs.StoredPart.{Stores, stores-ok, ok-stores, stores-more, stores-all, stored-length}
 use Rattle.sound_laws.specs.ToSound.{sound-again}

@@ -28,7 +28,8 @@ use Rattle.page_laws.specs.Layout.{Laid}
 use Rattle.page_laws.specs.Restartable.{laid-blocks, empty-slots}
 use Rattle.ledger_laws.specs.PendingRule.{settles-pending}
 use Rattle.history_laws.specs.Core.{Core, RowsOk, NamesOk}
-use Rattle.history_laws.specs.Redoing.{pages-back, log-back, log-area-length, numbers-true}
+use Rattle.area_laws.specs.Typed.{pages-back, log-back, log-area-length}
+use Rattle.history_laws.specs.Redoing.{numbers-true}
 
 -- ---- slots
 
