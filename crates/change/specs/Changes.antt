@@ -1,5 +1,5 @@
 -- The change of A, B, C or the map, kind by kind, from what the program's steps yield.
-use mathlib.Core.Path.{_≡_, refl, ap, ap₂, sym, _∙_, subst}
+use mathlib.Core.Path.{_≡_, ap, ap₂, sym, _∙_, subst}
 use Prim.Native.Nat.{ℕ, suc, _+_, _-_, _%_, _<_, _≤_}
 use native.Mathlib.Omega.{arith}
 use native.Mathlib.Decide.{decLt}
@@ -7,8 +7,8 @@ use mathlib.Core.Bool.{true, false}
 use mathlib.Core.List.{List, [], _∷_, _++_}
 use lib.ListN.{take, set, length-take}
 use lib.Seq.{take-all}
-use lib.Dec.{eqb, ltb}
-use Rattle.base.specs.Tests.{pick, neq-false, true-lt}
+use lib.Dec.{eqb}
+use Rattle.base.specs.Tests.{pick, neq-false}
 use Rattle.layout.specs.declared.Entry.{Entry}
 use Rattle.layout.specs.Entries.{entry, entry-at, top, insert-sorted, remove-key}
 use Rattle.layout.specs.Pages.{Page, PageKind, page-kind, index, kind-at, node-at, freed}
@@ -17,35 +17,34 @@ use Rattle.bytes.specs.Tables.{tab-length}
 use Rattle.bytes.specs.Ranges.{Run, in-run, past}
 use Rattle.entries.specs.EntryBytes.{used}
 use Rattle.page.specs.declared.Page as program
-use Rattle.page.specs.Typed.{typed}
+use Rattle.page.specs.Typed.{typed, used-entries}
 use Rattle.page.specs.Kinds.{used-entries-node}
-use Rattle.model.specs.Change.{Role, kept, link-in, unlink-in, into-a, share-in-a, share-in-b, with-entries, with-chain, with-marks, with-lsn, cut-to-size, change-a, change-b, change-c, change, takes, shape, role, as-map, act}
+use Rattle.model.specs.Change.{Role, kept, link-in, unlink-in, into-a, share-in-a, share-in-b, with-entries, with-chain, with-marks, with-lsn, entries-in, cut-to-size, change-a, change-b, change-c, change, takes, shape, role, as-map, act}
 use Rattle.change.specs.declared.Record.{Record}
 use Rattle.change.specs.Lists.{at-most-room}
-use Rattle.change.specs.Pages.{rec, node-of}
-use Rattle.change.specs.Roles.{role-at, role-map, able, quiet-low, quiet-past, quiet-mid}
+use Rattle.change.specs.Pages.{rec, node-of, entries-in-node, entries-in-map, node-entries}
+use Rattle.change.specs.Roles.{role-at, role-map, quiet-low, quiet-past, quiet-mid}
 
 take-room : (l : List Entry) → take 14 (take 14 l) ≡ take 14 l
 take-room l = take-all 14 (take 14 l) (omega (arith, length-take 14 l))
 
-chain-cut : (right high : ℕ) (es l : List Entry) (x : Page) → l ≡ take 14 es → cut-to-size (with-chain right high l x) ≡ cut-to-size (with-chain right high es x)
+chain-cut : (right high : ℕ) (es l : List Entry) (x : Page) → entries-in (x .kind) l ≡ entries-in (x .kind) es → cut-to-size (with-chain right high l x) ≡ cut-to-size (with-chain right high es x)
 unfolding cut-to-size
 chain-cut right high es l x e =
-    ap (λ (m : List Entry). record { kind = x .kind; level = x .level % 16; right = right; high = high; lsn = x .lsn; own = x .own; entries = m; marks = x .marks })
-    (ap (λ (m : List Entry). take 14 m) e ∙ take-room es)
+    ap (λ (m : List Entry). record { kind = x .kind; level = x .level % 16; right = right; high = high; lsn = x .lsn; own = x .own; entries = m; marks = x .marks }) e
 
 -- ---- new pages
 
-pub filled : (k level own right high n : ℕ) (es : List Entry) (y : Page) → page-kind k ≡ kind-at level → n ≤ 14
+pub filled : (k level own right high n : ℕ) (es : List Entry) (y : Page) → page-kind k ≡ kind-at level → k < 3 → n ≤ 14
     → y ≡ node-of k level own right high (used n es) → y ≡ cut-to-size (node-at own level right high (used n es))
 unfolding cut-to-size
-filled k level own right high n es y p h e =
+filled k level own right high n es y p j h e =
     e ∙ ap₂ (λ (q : PageKind) (l : List Entry). record { kind = q; level = level % 16; right = right; high = high; lsn = 0; own = own; entries = l; marks = [] })
-    p (at-most-room n es (used n es) h refl)
+    p (node-entries k n es j h ∙ ap (λ (q : PageKind). entries-in q (used n es)) p)
 
 pub raised : (level own k c b : ℕ) (l : List Entry) (y : Page) → l ≡ entry k c ∷ entry top b ∷ [] → y ≡ node-of 2 (level % 16 + 1) own 0 top l
     → y ≡ cut-to-size (node-at own (suc level) 0 top (entry k c ∷ entry top b ∷ []))
-unfolding cut-to-size page-kind
+unfolding entries-in cut-to-size page-kind
 raised level own k c b l y q e =
     let s : (level % 16 + 1) % 16 ≡ suc level % 16 = omega arith in
     let z : eqb (suc level) 0 ≡ false = neq-false (λ (o : suc level ≡ 0). omega arith) in
@@ -155,73 +154,80 @@ module _ (r : Record) (x : program.Page) (y : Page) where
 
   -- ---- A and B with entries anew
 
-  module _ (node : x .kind < 3) where
-    node-entries : typed x .entries ≡ used (x .count) (x .entries)
-    unfolding typed
-    node-entries = used-entries-node (x .count) (x .entries) (x .kind) node
+  by-chain : (f : List Entry → List Entry) (right high : ℕ) (l : List Entry) → l ≡ take 14 (f (used (x .count) (x .entries)))
+      → y ≡ cut-to-size (with-chain right high l (typed x)) → y ≡ cut-to-size (with-chain right high (f (typed x .entries)) (typed x))
+  unfolding typed
+  by-chain f right high l q e = e ∙ chain-cut right high (f (typed x .entries)) l (typed x) cut-alike
+    where
+      cut-alike : entries-in (page-kind (x .kind)) l ≡ entries-in (page-kind (x .kind)) (f (used-entries (page-kind (x .kind)) (x .count) (x .entries)))
+      cut-alike =
+          elim (decLt (x .kind) 3) [
+            | yes k ↦
+                entries-in-node (x .kind) l k ∙ ap (λ (m : List Entry). take 14 m) q ∙ take-room (f (used (x .count) (x .entries)))
+                ∙ ap (λ (es : List Entry). take 14 (f es)) (sym (used-entries-node (x .count) (x .entries) (x .kind) k))
+                ∙ sym (entries-in-node (x .kind) (f (used-entries (page-kind (x .kind)) (x .count) (x .entries))) k)
+            | no k ↦
+                let m : 3 ≤ x .kind = omega arith in
+                entries-in-map (x .kind) l m ∙ sym (entries-in-map (x .kind) (f (used-entries (page-kind (x .kind)) (x .count) (x .entries))) m)
+          ]
 
-    by-chain : (f : List Entry → List Entry) (right high : ℕ) (l : List Entry) → l ≡ take 14 (f (used (x .count) (x .entries)))
-        → y ≡ cut-to-size (with-chain right high l (typed x)) → y ≡ cut-to-size (with-chain right high (f (typed x .entries)) (typed x))
-    by-chain f right high l q e =
-        e ∙ chain-cut right high (f (typed x .entries)) l (typed x) (q ∙ ap (λ (es : List Entry). take 14 (f es)) (sym node-entries))
-
-    module _ (l : List Entry) where
-      pub a-insert : r .kind ≡ 2 → l ≡ take 14 (insert-sorted (r .key) (r .second) (used (x .count) (x .entries))) → y ≡ cut-to-size (with-entries l (typed x)) → A (kind-of (r .kind))
-      unfolding change-a kind-of
-      a-insert k q e =
-          by-chain (λ es. insert-sorted (r .key) (r .second) es) (typed x .right) (typed x .high) l q e
-          ∙ ap (λ (n : ℕ). cut-to-size (change-a (kind-of n) (rec r) (typed x))) (sym k)
-
-      pub a-undo-delete : r .kind ≡ 5 → l ≡ take 14 (insert-sorted (r .key) (r .second) (used (x .count) (x .entries))) → y ≡ cut-to-size (with-entries l (typed x)) → A (kind-of (r .kind))
-      unfolding change-a kind-of
-      a-undo-delete k q e =
-          by-chain (λ es. insert-sorted (r .key) (r .second) es) (typed x .right) (typed x .high) l q e
-          ∙ ap (λ (n : ℕ). cut-to-size (change-a (kind-of n) (rec r) (typed x))) (sym k)
-
-      pub a-delete : 3 ≤ r .kind → r .kind < 5 → l ≡ take 14 (remove-key (r .key) (used (x .count) (x .entries))) → y ≡ cut-to-size (with-entries l (typed x)) → A (kind-of (r .kind))
-      unfolding change-a kind-of Run
-      a-delete h k q e =
-          let d = by-chain (λ es. remove-key (r .key) es) (typed x .right) (typed x .high) l q e in
-          in-run (λ (n : ℕ). A (kind-of n)) 2 3 (r .kind) (d, (d, tt)) h k
-
-      pub a-link : r .kind ≡ 10 → l ≡ take 14 (link-in (r .b) (r .key) (r .c) (r .second) (used (x .count) (x .entries))) → y ≡ cut-to-size (with-entries l (typed x)) → A (kind-of (r .kind))
-      unfolding change-a kind-of
-      a-link k q e =
-          by-chain (λ es. link-in (r .b) (r .key) (r .c) (r .second) es) (typed x .right) (typed x .high) l q e
-          ∙ ap (λ (n : ℕ). cut-to-size (change-a (kind-of n) (rec r) (typed x))) (sym k)
-
-      pub a-unlink : r .kind ≡ 11 → l ≡ take 14 (unlink-in (r .b) (r .key) (r .second) (used (x .count) (x .entries))) → y ≡ cut-to-size (with-entries l (typed x)) → A (kind-of (r .kind))
-      unfolding change-a kind-of
-      a-unlink k q e =
-          by-chain (λ es. unlink-in (r .b) (r .key) (r .second) es) (typed x .right) (typed x .high) l q e
-          ∙ ap (λ (n : ℕ). cut-to-size (change-a (kind-of n) (rec r) (typed x))) (sym k)
-
-      pub a-merge : r .kind ≡ 12 → l ≡ take 14 (used (x .count) (x .entries) ++ used (r .count) (r .entries)) → y ≡ cut-to-size (with-chain (r .right) (r .key) l (typed x)) → A (kind-of (r .kind))
-      unfolding change-a kind-of
-      a-merge k q e =
-          by-chain (λ es. es ++ used (r .count) (r .entries)) (r .right) (r .key) l q e
-          ∙ ap (λ (n : ℕ). cut-to-size (change-a (kind-of n) (rec r) (typed x))) (sym k)
-
-      pub a-share : r .kind ≡ 13 → l ≡ take 14 (share-in-a (into-a (rec r)) (rec r) (used (x .count) (x .entries))) → y ≡ cut-to-size (with-chain (x .right) (r .key) l (typed x)) → A (kind-of (r .kind))
-      unfolding change-a kind-of typed
-      a-share k q e =
-          by-chain (λ es. share-in-a (into-a (rec r)) (rec r) es) (x .right) (r .key) l q e
-          ∙ ap (λ (n : ℕ). cut-to-size (change-a (kind-of n) (rec r) (typed x))) (sym k)
-
-      pub b-share : r .kind ≡ 13 → l ≡ take 14 (share-in-b (into-a (rec r)) (rec r) (used (x .count) (x .entries))) → y ≡ cut-to-size (with-entries l (typed x)) → B (kind-of (r .kind))
-      unfolding change-b kind-of
-      b-share k q e =
-          by-chain (λ es. share-in-b (into-a (rec r)) (rec r) es) (typed x .right) (typed x .high) l q e
-          ∙ ap (λ (n : ℕ). cut-to-size (change-b (kind-of n) (rec r) (typed x))) (sym k)
-
-    pub a-split : (n : ℕ) (es : List Entry) → r .kind ≡ 9 → n ≤ 14 → used n es ≡ take (x .count - r .count) (used (x .count) (x .entries))
-        → y ≡ cut-to-size (with-chain (r .b) (r .key) (used n es) (typed x)) → A (kind-of (r .kind))
+  module _ (l : List Entry) where
+    pub a-insert : r .kind ≡ 2 → l ≡ take 14 (insert-sorted (r .key) (r .second) (used (x .count) (x .entries))) → y ≡ cut-to-size (with-entries l (typed x)) → A (kind-of (r .kind))
     unfolding change-a kind-of
-    a-split n es k h q e =
-        by-chain (λ fs. kept (used (r .count) (r .entries)) fs) (r .b) (r .key) (used n es)
-        (at-most-room n es (kept (used (r .count) (r .entries)) (used (x .count) (x .entries))) h
-        (q ∙ sym (rw (tab-length (r .count) (entry-at (r .entries)), tab-length (x .count) (entry-at (x .entries)))))) e
+    a-insert k q e =
+        by-chain (λ es. insert-sorted (r .key) (r .second) es) (typed x .right) (typed x .high) l q e
         ∙ ap (λ (n : ℕ). cut-to-size (change-a (kind-of n) (rec r) (typed x))) (sym k)
+
+    pub a-undo-delete : r .kind ≡ 5 → l ≡ take 14 (insert-sorted (r .key) (r .second) (used (x .count) (x .entries))) → y ≡ cut-to-size (with-entries l (typed x)) → A (kind-of (r .kind))
+    unfolding change-a kind-of
+    a-undo-delete k q e =
+        by-chain (λ es. insert-sorted (r .key) (r .second) es) (typed x .right) (typed x .high) l q e
+        ∙ ap (λ (n : ℕ). cut-to-size (change-a (kind-of n) (rec r) (typed x))) (sym k)
+
+    pub a-delete : 3 ≤ r .kind → r .kind < 5 → l ≡ take 14 (remove-key (r .key) (used (x .count) (x .entries))) → y ≡ cut-to-size (with-entries l (typed x)) → A (kind-of (r .kind))
+    unfolding change-a kind-of Run
+    a-delete h k q e =
+        let d = by-chain (λ es. remove-key (r .key) es) (typed x .right) (typed x .high) l q e in
+        in-run (λ (n : ℕ). A (kind-of n)) 2 3 (r .kind) (d, (d, tt)) h k
+
+    pub a-link : r .kind ≡ 10 → l ≡ take 14 (link-in (r .b) (r .key) (r .c) (r .second) (used (x .count) (x .entries))) → y ≡ cut-to-size (with-entries l (typed x)) → A (kind-of (r .kind))
+    unfolding change-a kind-of
+    a-link k q e =
+        by-chain (λ es. link-in (r .b) (r .key) (r .c) (r .second) es) (typed x .right) (typed x .high) l q e
+        ∙ ap (λ (n : ℕ). cut-to-size (change-a (kind-of n) (rec r) (typed x))) (sym k)
+
+    pub a-unlink : r .kind ≡ 11 → l ≡ take 14 (unlink-in (r .b) (r .key) (r .second) (used (x .count) (x .entries))) → y ≡ cut-to-size (with-entries l (typed x)) → A (kind-of (r .kind))
+    unfolding change-a kind-of
+    a-unlink k q e =
+        by-chain (λ es. unlink-in (r .b) (r .key) (r .second) es) (typed x .right) (typed x .high) l q e
+        ∙ ap (λ (n : ℕ). cut-to-size (change-a (kind-of n) (rec r) (typed x))) (sym k)
+
+    pub a-merge : r .kind ≡ 12 → l ≡ take 14 (used (x .count) (x .entries) ++ used (r .count) (r .entries)) → y ≡ cut-to-size (with-chain (r .right) (r .key) l (typed x)) → A (kind-of (r .kind))
+    unfolding change-a kind-of
+    a-merge k q e =
+        by-chain (λ es. es ++ used (r .count) (r .entries)) (r .right) (r .key) l q e
+        ∙ ap (λ (n : ℕ). cut-to-size (change-a (kind-of n) (rec r) (typed x))) (sym k)
+
+    pub a-share : r .kind ≡ 13 → l ≡ take 14 (share-in-a (into-a (rec r)) (rec r) (used (x .count) (x .entries))) → y ≡ cut-to-size (with-chain (x .right) (r .key) l (typed x)) → A (kind-of (r .kind))
+    unfolding change-a kind-of typed
+    a-share k q e =
+        by-chain (λ es. share-in-a (into-a (rec r)) (rec r) es) (x .right) (r .key) l q e
+        ∙ ap (λ (n : ℕ). cut-to-size (change-a (kind-of n) (rec r) (typed x))) (sym k)
+
+    pub b-share : r .kind ≡ 13 → l ≡ take 14 (share-in-b (into-a (rec r)) (rec r) (used (x .count) (x .entries))) → y ≡ cut-to-size (with-entries l (typed x)) → B (kind-of (r .kind))
+    unfolding change-b kind-of
+    b-share k q e =
+        by-chain (λ es. share-in-b (into-a (rec r)) (rec r) es) (typed x .right) (typed x .high) l q e
+        ∙ ap (λ (n : ℕ). cut-to-size (change-b (kind-of n) (rec r) (typed x))) (sym k)
+
+  pub a-split : (n : ℕ) (es : List Entry) → r .kind ≡ 9 → n ≤ 14 → used n es ≡ take (x .count - r .count) (used (x .count) (x .entries))
+      → y ≡ cut-to-size (with-chain (r .b) (r .key) (used n es) (typed x)) → A (kind-of (r .kind))
+  unfolding change-a kind-of
+  a-split n es k h q e =
+      by-chain (λ fs. kept (used (r .count) (r .entries)) fs) (r .b) (r .key) (used n es)
+      (at-most-room n es (kept (used (r .count) (r .entries)) (used (x .count) (x .entries))) h
+      (q ∙ sym (rw (tab-length (r .count) (entry-at (r .entries)), tab-length (x .count) (entry-at (x .entries)))))) e
+      ∙ ap (λ (n : ℕ). cut-to-size (change-a (kind-of n) (rec r) (typed x))) (sym k)
 
 -- ---- by the part
 
@@ -244,15 +250,6 @@ module _ (r : Record) (x : program.Page) (y : Page) (t : ℕ) where
 
   pub change-as-map : 4 ≤ t → y ≡ cut-to-size (change (rec r) as-map (typed x)) → y ≡ cut-to-size (change (rec r) (role-at t) (typed x))
   change-as-map k e = e ∙ ap (λ (o : Role). cut-to-size (change (rec r) o (typed x))) (sym (role-map t k))
-
--- A and B are leaves, indexes or free pages.
-pub able-a : (t k : ℕ) → t ≡ 1 → able (role-at t) k ≡ true → k < 3
-unfolding able role-at
-able-a t k e h = let l : ltb k 3 ≡ true = rw e at h in true-lt k 3 l
-
-pub able-b : (t k : ℕ) → t ≡ 2 → able (role-at t) k ≡ true → k < 3
-unfolding able role-at
-able-b t k e h = let l : ltb k 3 ≡ true = rw e at h in true-lt k 3 l
 
 -- The number put in.
 pub stamped : (r : Record) (n p : ℕ) (o : Role) (x : program.Page) (y : program.Page) → o ≡ role (rec r) p → typed y ≡ cut-to-size (change (rec r) o (typed x))

@@ -1,6 +1,6 @@
 -- A page that a record changes, from the numbers that the program puts together.
 use mathlib.Core.Path.{_≡_, refl, ap, ap₂, sym, _∙_}
-use Prim.Native.Nat.{ℕ, _-_, _%_, _<_, _≤_}
+use Prim.Native.Nat.{ℕ, zero, suc, _-_, _%_, _<_, _≤_}
 use native.Mathlib.Omega.{arith}
 use native.Mathlib.Decide.{decLt}
 use mathlib.Core.Bool.{Bool, true, false}
@@ -12,7 +12,7 @@ use Rattle.base.specs.Tests.{le-true}
 use Rattle.layout.specs.declared.Entry.{Entry}
 use Rattle.layout.specs.Entries.{entry-at, key-at}
 use Rattle.layout.specs.Numbers.{tab}
-use Rattle.layout.specs.Pages.{Page, free, page-kind, freed, map-bits}
+use Rattle.layout.specs.Pages.{Page, PageKind, page-kind, freed, map-bits}
 use Rattle.layout.specs.Records.{Rec}
 use Rattle.bytes.specs.Tables.{tab-length}
 use Rattle.entries.specs.EntryBytes.{used}
@@ -20,9 +20,9 @@ use Rattle.entries.specs.Turns.{used-cons}
 use Rattle.slot.specs.Typed.{rec-of}
 use Rattle.page.specs.declared.Page as program
 use Rattle.page.specs.Typed.{typed, used-entries, used-marks, map-mark}
-use Rattle.page.specs.Kinds.{used-entries-node, used-entries-map, used-marks-node, used-marks-map}
+use Rattle.page.specs.Kinds.{kind-map, used-entries-node, used-entries-map, used-marks-node, used-marks-map}
 use Rattle.map.specs.Turns.{marks}
-use Rattle.model.specs.Change.{first-key, into-a, share-in-a, share-in-b, with-chain, with-marks, cut-to-size}
+use Rattle.model.specs.Change.{first-key, into-a, share-in-a, share-in-b, with-chain, with-marks, entries-in, cut-to-size}
 use Rattle.change.specs.declared.Record.{Record}
 use Rattle.change.specs.Lists.{at-most-room}
 
@@ -78,14 +78,31 @@ abbrev shaped : program.Page → (right high : ℕ) → List Entry → List Bool
 shaped x right high es ms =
     record { kind = page-kind (x .kind); level = x .level % 16; right = right; high = high; lsn = x .lsn; own = x .own; entries = es; marks = ms }
 
+-- What is cut of a page's entries, by the kind's number.
+pub entries-in-node : (k : ℕ) (es : List Entry) → k < 3 → entries-in (page-kind k) es ≡ take 14 es
+unfolding page-kind entries-in
+entries-in-node zero es h = refl
+entries-in-node (suc zero) es h = refl
+entries-in-node (suc (suc zero)) es h = refl
+entries-in-node (suc (suc (suc k))) es h = absurd (omega arith)
+
+pub entries-in-map : (k : ℕ) (es : List Entry) → 3 ≤ k → entries-in (page-kind k) es ≡ []
+unfolding entries-in
+entries-in-map k es h = ap (λ (q : PageKind). entries-in q es) (kind-map k h)
+
 room-all : (n : ℕ) (es : List Entry) → n ≤ 14 → used n es ≡ take 14 (used n es)
 room-all n es h = at-most-room n es (used n es) h refl
 
-kind-entries : (k n : ℕ) (es : List Entry) → n ≤ 14 → used-entries (page-kind k) n es ≡ take 14 (used-entries (page-kind k) n es)
+pub node-entries : (k n : ℕ) (es : List Entry) → k < 3 → n ≤ 14 → used n es ≡ entries-in (page-kind k) (used n es)
+node-entries k n es q h = room-all n es h ∙ sym (entries-in-node k (used n es) q)
+
+kind-entries : (k n : ℕ) (es : List Entry) → n ≤ 14 → used-entries (page-kind k) n es ≡ entries-in (page-kind k) (used-entries (page-kind k) n es)
 kind-entries k n es h =
     elim (decLt k 3) [
-      | yes q ↦ rw (used-entries-node n es k q) (room-all n es h)
-      | no q ↦ rw (used-entries-map n es k (omega arith))
+      | yes q ↦ rw (used-entries-node n es k q) (node-entries k n es q h)
+      | no q ↦
+          let m : 3 ≤ k = omega arith in
+          used-entries-map n es k m ∙ sym (entries-in-map k (used-entries (page-kind k) n es) m)
     ]
 
 pub cut-typed : (x : program.Page) → x .count ≤ 14 → typed (sized x (x .count) (x .right) (x .high) (x .entries)) ≡ cut-to-size (typed x)
@@ -97,8 +114,16 @@ pub renew-typed : (x : program.Page) (right high n : ℕ) (es : List Entry) → 
     → typed (sized x n right high es) ≡ cut-to-size (with-chain right high (used n es) (typed x))
 unfolding typed cut-to-size
 renew-typed x right high n es k h =
-    ap₂ (λ (l : List Entry) (m : List Bool). shaped x right high l m) (used-entries-node n es (x .kind) k ∙ room-all n es h)
+    ap₂ (λ (l : List Entry) (m : List Bool). shaped x right high l m) (used-entries-node n es (x .kind) k ∙ node-entries (x .kind) n es k h)
     (used-marks-node es (x .kind) k ∙ sym (used-marks-node (x .entries) (x .kind) k))
+
+-- The map keeps its marks, and takes no entries.
+pub renew-map : (x : program.Page) (right high : ℕ) (l : List Entry) → 3 ≤ x .kind
+    → typed (sized x (x .count) right high (x .entries)) ≡ cut-to-size (with-chain right high l (typed x))
+unfolding typed cut-to-size
+renew-map x right high l k =
+    ap (λ (es : List Entry). shaped x right high es (used-marks (page-kind (x .kind)) (x .entries)))
+    (used-entries-map (x .count) (x .entries) (x .kind) k ∙ sym (entries-in-map (x .kind) l k))
 
 pub node-typed : (kind level own right high n : ℕ) (es : List Entry) → kind < 3
     → typed (record { kind = kind; level = level % 16; count = n; right = right; high = high; lsn = 0; own = own; entries = es })
@@ -110,14 +135,14 @@ node-typed kind level own right high n es k =
 
 pub free-typed : (own : ℕ) (es : List Entry)
     → typed (record { kind = 0; level = 0; count = 0; right = 0; high = 0; lsn = 0; own = own; entries = es }) ≡ cut-to-size (freed own)
-unfolding typed cut-to-size page-kind used-entries used-marks tab
+unfolding typed entries-in cut-to-size page-kind used-entries used-marks tab
 free-typed own es = refl
 
 -- ---- marks
 
 module _ (x : program.Page) (q : ℕ) (on : Bool) (h : x .count ≤ 14) where
   abbrev marked-page : List Bool → Page
-  marked-page m = shaped x (x .right) (x .high) (take 14 (used-entries (page-kind (x .kind)) (x .count) (x .entries))) m
+  marked-page m = shaped x (x .right) (x .high) (entries-in (page-kind (x .kind)) (used-entries (page-kind (x .kind)) (x .count) (x .entries))) m
 
   pub mark-node : (y : Page) → x .kind < 3 → y ≡ cut-to-size (typed x) → y ≡ cut-to-size (with-marks (set (typed x .marks) q on) (typed x))
   unfolding typed cut-to-size
@@ -135,5 +160,5 @@ module _ (x : program.Page) (q : ℕ) (on : Bool) (h : x .count ≤ 14) where
   unfolding typed cut-to-size
   mark-typed es k e =
       ap₂ (λ (l : List Entry) (m : List Bool). shaped x (x .right) (x .high) l m)
-      (used-entries-map (x .count) es (x .kind) k ∙ sym (rw (used-entries-map (x .count) (x .entries) (x .kind) k)))
+      (used-entries-map (x .count) es (x .kind) k ∙ sym (entries-in-map (x .kind) (used-entries (page-kind (x .kind)) (x .count) (x .entries)) k))
       (used-marks-map es (x .kind) k ∙ e ∙ sym (rw (used-marks-map (x .entries) (x .kind) k)))

@@ -4,7 +4,7 @@ use Prim.Native.Nat.{ℕ, zero, suc, _+_, _/_, _%_, _<_, _≤_}
 use native.Mathlib.Omega.{arith}
 use mathlib.Core.Bool.{Bool, true, false, _&&_}
 use lib.ListN.{List·getD-eq-default}
-use lib.Dec.{ltb, eqb}
+use lib.Dec.{eqb}
 use Rattle.base.specs.Tests.{pick}
 use Rattle.layout.specs.Records.{Kind, kinds, kind-of, begin, commit, abort-mark, end}
 use Rattle.bytes.specs.Ranges.{Run, in-run}
@@ -28,14 +28,6 @@ role-map (suc zero) h = absurd (omega arith)
 role-map (suc (suc zero)) h = absurd (omega arith)
 role-map (suc (suc (suc zero))) h = absurd (omega arith)
 role-map (suc (suc (suc (suc t)))) h = refl
-
--- Whether a page of a kind's number can have a part: A and B have entries, which the map has not.
-unfoldable pub able : Role → ℕ → Bool
-able model.none k = true
-able as-a k = ltb k 3
-able as-b k = ltb k 3
-able as-c k = true
-able as-map k = true
 
 -- The parts that a kind has, as a bit each.
 unfoldable pub mask : Shape → ℕ

@@ -21,7 +21,7 @@ ghost use Rattle.entries.specs.EntryBytes.{used};
 ghost use Rattle.page.specs.Typed.{typed};
 ghost use Rattle.change.specs.Lists.{listed};
 ghost use Rattle.change.specs.Pages.{rec, node-of};
-ghost use Rattle.change.specs.Roles.{role-at, able, mask};
+ghost use Rattle.change.specs.Roles.{role-at, mask};
 
 // Entries in use, the first `count` of fourteen.
 pub struct EntryList {
@@ -247,11 +247,24 @@ fn cut(x: Page) -> Page
     }
 }
 
-// A leaf or an index with right link, high key and entries anew.
+// A page with right link, high key and entries anew; the map has no entries and keeps its marks.
 fn renew(x: Page, right: u32, high: u32, l: EntryList) -> Page
-    requires { ⌜ (x .kind < 3) × (l .count ≤ 14) ⌝ }
+    requires { ⌜ l .count ≤ 14 ⌝ }
     ensures { λ y. ⌜ typed y ≡ cut-to-size (with-chain right high (listed l) (typed x)) ⌝ }
 {
+    if x.kind >= 3 {
+        let marks = x.entries;
+        return Page {
+            kind: x.kind,
+            level: x.level % 16,
+            count: x.count,
+            right,
+            high,
+            lsn: x.lsn,
+            own: x.own,
+            entries: marks,
+        };
+    }
     let entries = l.entries;
     Page {
         kind: x.kind,
@@ -333,9 +346,9 @@ fn mark(x: Page, q: usize, on: bool) -> Page
     }
 }
 
-// A leaf or an index with other entries.
+// A page with other entries.
 fn with_list(x: Page, l: EntryList) -> Page
-    requires { ⌜ (x .kind < 3) × (l .count ≤ 14) ⌝ }
+    requires { ⌜ l .count ≤ 14 ⌝ }
     ensures { λ y. ⌜ typed y ≡ cut-to-size (with-entries (listed l) (typed x)) ⌝ }
 {
     renew(x, x.right, x.high, l)
@@ -364,7 +377,7 @@ fn raised(r: Record, own: u32) -> Page
 
 // What a record does to its page A.
 fn change_a(r: Record, x: Page) -> Page
-    requires { ⌜ (x .kind < 3) × (x .count ≤ 14) × (r .count ≤ 14) ⌝ }
+    requires { ⌜ (x .count ≤ 14) × (r .count ≤ 14) ⌝ }
     ensures { λ y. ⌜ typed y ≡ cut-to-size (change-a (kind-of (r .kind)) (rec r) (typed x)) ⌝ }
 {
     let kind = r.kind;
@@ -389,7 +402,7 @@ fn change_a(r: Record, x: Page) -> Page
 
 // What it does to its page B.
 fn change_b(r: Record, x: Page) -> Page
-    requires { ⌜ (x .kind < 3) × (x .count ≤ 14) × (r .count ≤ 14) ⌝ }
+    requires { ⌜ (x .count ≤ 14) × (r .count ≤ 14) ⌝ }
     ensures { λ y. ⌜ typed y ≡ cut-to-size (change-b (kind-of (r .kind)) (rec r) (typed x)) ⌝ }
 {
     let kind = r.kind;
@@ -466,7 +479,7 @@ pub fn role_of(r: Record, p: usize) -> u32
 
 // The change of a page that has the part.
 fn change(r: Record, role: u32, x: Page) -> Page
-    requires { ⌜ (able (role-at role) (x .kind) ≡ true) × (x .count ≤ 14) × (r .count ≤ 14) ⌝ }
+    requires { ⌜ (x .count ≤ 14) × (r .count ≤ 14) ⌝ }
     ensures { λ y. ⌜ typed y ≡ cut-to-size (change (rec r) (role-at role) (typed x)) ⌝ }
 {
     match role {
@@ -478,9 +491,9 @@ fn change(r: Record, role: u32, x: Page) -> Page
     }
 }
 
-// What record number n does to page p, which it may or may not change. A and B are no map.
+// What record number n does to page p, which it may or may not change.
 pub fn apply(r: Record, n: u32, p: usize, x: Page) -> Page
-    requires { ⌜ (able (role (rec r) p) (x .kind) ≡ true) × (x .count ≤ 14) × (r .count ≤ 14) ⌝ }
+    requires { ⌜ (x .count ≤ 14) × (r .count ≤ 14) ⌝ }
     ensures { λ y. ⌜ typed y ≡ act p n (rec r) (typed x) ⌝ }
 {
     let mut y = change(r, role_of(r, p), x);

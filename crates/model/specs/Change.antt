@@ -8,7 +8,7 @@ use lib.Dec.{leb, ltb, eqb}
 use Rattle.base.specs.Tests.{pick}
 use Rattle.layout.specs.declared.Entry.{Entry}
 use Rattle.layout.specs.Entries.{entry, top, room, insert-sorted, remove-key}
-use Rattle.layout.specs.Pages.{Page, node-at, freed}
+use Rattle.layout.specs.Pages.{PageKind, free, leaf, index, storage-map, Page, node-at, freed}
 use Rattle.layout.specs.Records.{Rec, Kind, begin, insert, delete, undo-insert, undo-delete, commit, abort-mark, end, split, link, unlink, merge, redistribute, raise, lower}
 
 -- ---- entries
@@ -46,9 +46,15 @@ with-marks m x = record { kind = x .kind; level = x .level; right = x .right; hi
 abbrev pub with-chain : ℕ → ℕ → List Entry → Page → Page
 with-chain right high es x = record { kind = x .kind; level = x .level; right = right; high = high; lsn = x .lsn; own = x .own; entries = es; marks = x .marks }
 
--- A page has four bits for its level and room for 14 entries; no change that fits its page goes beyond.
+-- A page has four bits for its level and room for 14 entries, and the map has none; no change that fits its page goes beyond.
+unfoldable pub entries-in : PageKind → List Entry → List Entry
+entries-in free es = take room es
+entries-in leaf es = take room es
+entries-in index es = take room es
+entries-in storage-map es = []
+
 unfoldable pub cut-to-size : Page → Page
-cut-to-size x = record { kind = x .kind; level = x .level % 16; right = x .right; high = x .high; lsn = x .lsn; own = x .own; entries = take room (x .entries); marks = x .marks }
+cut-to-size x = record { kind = x .kind; level = x .level % 16; right = x .right; high = x .high; lsn = x .lsn; own = x .own; entries = entries-in (x .kind) (x .entries); marks = x .marks }
 
 -- ---- the pages that a record changes
 

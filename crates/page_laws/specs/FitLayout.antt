@@ -13,7 +13,7 @@ use Rattle.layout.specs.Entries.{top, room, entry, ten-bits, same-entries, inse
 use Rattle.layout.specs.Pages.{Page, PageKind, free, leaf, index, storage-map, page-kind-number, kind-is, kind-at, node-at, freed, at, layout, layout-by, own-ok, map-bits}
 use Rattle.layout.specs.Records.{Kind, begin, insert, delete, undo-insert, undo-delete, commit, abort-mark, end, split, link, unlink, merge, redistribute, raise, lower, Rec}
 use Rattle.layout.specs.Rows.{level-bits, carries, named-only, row, row-says, names-pages}
-use Rattle.model.specs.Change.{Role, none, as-a, as-b, as-c, as-map, shape, role, hit, link-in, unlink-in, first-key, kept, with-lsn, cut-to-size, into-a, share-in-a, share-in-b, change-a, change-b, change-c, change, page-marked, takes, act}
+use Rattle.model.specs.Change.{Role, none, as-a, as-b, as-c, as-map, shape, role, hit, link-in, unlink-in, first-key, kept, with-lsn, entries-in, cut-to-size, into-a, share-in-a, share-in-b, change-a, change-b, change-c, change, page-marked, takes, act}
 use Rattle.model.specs.Fit.{after, is-leaf, is-index, is-node, children-in, share-fits-a, share-fits-b, fits-a, fits-b, fits-role, fits}
 use Rattle.page_laws.specs.Layout.{map-marked, freed-layout}
 
@@ -114,7 +114,7 @@ few es = let a = take-few room es in a
 -- It stays one, with other entries.
 node-closes : (n p m : ℕ) (x y : Page) → x .level < 16 → layout n p x ≡ true → is-node x ≡ true → y .kind ≡ x .kind → y .own ≡ x .own → y .level ≡ x .level → children-in x (y .entries) ≡ true
     → layout n p (with-lsn m (cut-to-size y)) ≡ true
-unfolding layout layout-by own-ok kind-is page-kind-number cut-to-size
+unfolding layout layout-by own-ok kind-is page-kind-number entries-in cut-to-size
 node-closes n p m x y lw t u k o l c = go (x .kind) refl t u c
   where
     keep : (z : ℕ) → z < 16 → z % 16 ≡ z
@@ -139,7 +139,7 @@ node-closes n p m x y lw t u k o l c = go (x .kind) refl t u c
 
 -- A page becomes one.
 new-closes : (n p m own level right high : ℕ) (es : List Entry) → own ≡ p → 0 < p → level < 16 → level-bits level es ≡ true → layout n p (with-lsn m (cut-to-size (node-at own level right high es))) ≡ true
-unfolding layout layout-by own-ok cut-to-size
+unfolding layout layout-by own-ok entries-in cut-to-size
 new-closes n p m own zero right high es o h l b = and-both (lt-true 0 p h) (and-both (eq-true own p o) (le-true (length (take room es)) room (few es)))
 new-closes n p m own (suc level) right high es o h l b =
     let k : suc level % 16 ≡ suc level = omega arith in

@@ -4,7 +4,7 @@ use mathlib.Core.Path.{_≡_, refl, sym, ap, _∙_}
 use mathlib.Core.Bool.{Bool, true, false, not, _&&_}
 use mathlib.Core.List.{List, [], _∷_, _++_}
 use native.Mathlib.Omega.{arith}
-use lib.ListN.{length, take, drop, set}
+use lib.ListN.{length, drop, set}
 use lib.Seq.{drop-set-lt}
 use lib.Dec.{leb, ltb, eqb, eqb·suc-zero}
 use Rattle.base.specs.Tests.{clash, lt-true, true-eq, eq-true, neq-false, le-true, and-true, and-both, any}
@@ -12,7 +12,7 @@ use Rattle.layout.specs.declared.Entry.{Entry}
 use Rattle.layout.specs.Entries.{room, ten-bits}
 use Rattle.layout.specs.Pages.{PageKind, free, leaf, index, storage-map, Page, freed, zero-page, at, map-bits, own-ok, never-used, bare, layout-by, layout}
 use Rattle.layout.specs.Rows.{level-bits}
-use Rattle.model.specs.Change.{with-lsn, with-marks, cut-to-size}
+use Rattle.model.specs.Change.{with-lsn, with-marks, entries-in, cut-to-size}
 use Rattle.model.specs.TreeRules.{Node, first-page}
 use Rattle.tree_laws.specs.Chains.{IsNode}
 use Rattle.tree_laws.specs.Trees.{joined-cut, levels-at, all-cut, page-at}
@@ -111,7 +111,7 @@ map-layout n x m = rw (m .kind, eq-true (x .own) 0 (m .own), eq-true (x .level) 
 -- A page below n is marked, or unmarked.
 pub map-marked : (n num b : ℕ) (t : Bool) (x : Page) → b < n → layout n 0 x ≡ true
     → layout n 0 (with-lsn num (cut-to-size (with-marks (set (x .marks) b t) x))) ≡ true
-unfolding cut-to-size
+unfolding entries-in cut-to-size
 map-marked n num b t x h l =
     let m = map-laid n x l in
     map-layout n (with-lsn num (cut-to-size (with-marks (set (x .marks) b t) x)))
@@ -121,14 +121,14 @@ map-marked n num b t x h l =
       level = ap (λ z. z % 16) (m .level);
       right = m .right;
       high = m .high;
-      none-held = ap (take room) (m .none-held);
+      none-held = ap (λ z. entries-in z (x .entries)) (m .kind);
       spare = ap (any (λ b. b)) (drop-set-lt n (x .marks) b t h) ∙ m .spare;
     })
 
 -- ---- a page freed
 
 pub freed-layout : (n num p o : ℕ) → 0 < p → o ≡ p → layout n p (with-lsn num (cut-to-size (freed o))) ≡ true
-unfolding layout layout-by own-ok cut-to-size
+unfolding layout layout-by own-ok entries-in cut-to-size
 freed-layout n num p o h e = rw (lt-true 0 p h, eq-true o p e)
 
 -- ---- an area of more pages

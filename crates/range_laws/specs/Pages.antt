@@ -12,7 +12,7 @@ use Rattle.layout.specs.declared.Entry.{Entry}
 use Rattle.layout.specs.Entries.{top, room, entry}
 use Rattle.layout.specs.Pages.{PageKind, free, leaf, index, storage-map, Page, kind-at, node-at, freed}
 use Rattle.layout.specs.Records.{Rec, Kind, begin, insert, delete, undo-insert, undo-delete, commit, abort-mark, end, split, link, unlink, merge, redistribute, raise, lower}
-use Rattle.model.specs.Change.{with-lsn, cut-to-size, Role, as-a, as-b, as-c, as-map, into-a, change-a, change-b, change-c, page-marked, takes, change}
+use Rattle.model.specs.Change.{with-lsn, entries-in, cut-to-size, Role, as-a, as-b, as-c, as-map, into-a, change-a, change-b, change-c, page-marked, takes, change}
 use Rattle.model.specs.Change
 use Rattle.entries.specs.EntryBytes.{EntryFits}
 use Rattle.page.specs.Fields.{NodeFits, MapFits, BodyFits, Fits as PageFits}
@@ -50,6 +50,13 @@ body-node leaf x p h = h
 body-node index x p h = h
 body-node storage-map x p h = absurd p
 
+plain-entries : (k : PageKind) (es : List Entry) → Plain k → entries-in k es ≡ take room es
+unfolding entries-in
+plain-entries free es p = refl
+plain-entries leaf es p = refl
+plain-entries index es p = refl
+plain-entries storage-map es p = absurd p
+
 -- What fits once the level and the count of entries are cut to size.
 pub record Loose (x : Page) : Type 0 where
   pub plain : Plain (x .kind)
@@ -68,13 +75,14 @@ pub loose-fits : (m : ℕ) (x : Page) → m < 2 ^ 32 → Loose x → PageFits (w
 unfolding cut-to-size
 loose-fits m x l h =
     let t = length-take room (x .entries) in
+    let e = plain-entries (x .kind) (x .entries) (h .plain) in
     record {
       level = mod-lt (x .level) (lit< tt);
       right = h .right;
       high = h .high;
       lsn = l;
       own = h .own;
-      body = node-body (x .kind) (with-lsn m (cut-to-size x)) (h .plain) (record { count = omega arith; entry = fine-at (take room (x .entries)) (each-take EntryFits room (x .entries) (h .entries)); marks = h .marks });
+      body = node-body (x .kind) (with-lsn m (cut-to-size x)) (h .plain) (record { count = rw e (omega arith); entry = fine-at _ (subst Fine (sym e) (each-take EntryFits room (x .entries) (h .entries))); marks = h .marks });
     }
 
 -- ---- the changes
@@ -155,7 +163,7 @@ module _ (m : ℕ) (r : Rec) (f : RecordFits m r) where
 
   -- THE MAP, where a page is marked or unmarked in it.
   pub map-fits : (x : Page) → x .kind ≡ storage-map → PageFits x → PageFits (with-lsn m (cut-to-size (change r as-map x)))
-  unfolding change cut-to-size BodyFits
+  unfolding change entries-in cut-to-size BodyFits
   map-fits x e h =
       let b : MapFits x = subst (λ k. BodyFits k x) e (h .body) in
       let y : Page = with-lsn m (cut-to-size (change r as-map x)) in
@@ -165,5 +173,5 @@ module _ (m : ℕ) (r : Rec) (f : RecordFits m r) where
         high = h .high;
         lsn = f .own;
         own = h .own;
-        body = subst (λ k. BodyFits k y) (sym e) (record { entries = ap (take room) (b .entries); marks = length-set (x .marks) (page-marked r) (takes (r .kind)) ∙ b .marks });
+        body = subst (λ k. BodyFits k y) (sym e) (record { entries = ap (λ k. entries-in k (x .entries)) e; marks = length-set (x .marks) (page-marked r) (takes (r .kind)) ∙ b .marks });
       }

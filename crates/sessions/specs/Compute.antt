@@ -9,7 +9,7 @@ use Rattle.layout.specs.Records.{kind-number}
 use Rattle.layout.specs.Rows.{carries, named-only, one-side, row-says, row, names-pages}
 use Rattle.layout.specs.RecordBytes.{record-bytes}
 use Rattle.layout.specs.Desks.{eight-rows, same-row, same-rows, same-desk}
-use Rattle.model.specs.Change.{link-in, unlink-in, cut-to-size, role, share-in-a, share-in-b, change-a, change-b, change-c, change}
+use Rattle.model.specs.Change.{link-in, unlink-in, entries-in, cut-to-size, role, share-in-a, share-in-b, change-a, change-b, change-c, change}
 use Rattle.model.specs.Fit.{found, found-value, after, link-fits, side-by-side, share-fits-a, share-fits-b, fits-a, fits-b, fits-map, fits-role}
 use Rattle.model.specs.Redo.{when-named, places, redo-at, redo-page, redo-places, redo-record, replay, count-places, redo-count, fits-places, redo-fits}
 use Rattle.model.specs.TreeRules.{flat, node-of, chain, first-child, collect, bottom, leaves, leaf-records, rising, ends-ok, node-ok, level-ok, matches, first-page, pages-ok, below-ok, counted, ones, root-least, levels-ok, walk-ok, tree-ok}
@@ -30,7 +30,7 @@ use Rattle.sessions.specs.Play.{numbers, ended, cut-off, play-step, play
 unfoldable pub computed : Session → Bool
 unfolding every any seek look insert-sorted remove-key same-entries ten-bits put32 tab chunks entry-bytes entries-bytes same-bytes page-kind-number kind-is
     own-ok never-used layout-by layout page-front bits marks-word marks-bytes page-body page-bytes kind-number carries named-only one-side row-says row
-    names-pages record-bytes eight-rows same-row same-rows same-desk link-in unlink-in cut-to-size role share-in-a share-in-b change-a change-b change-c
+    names-pages record-bytes eight-rows same-row same-rows same-desk link-in unlink-in entries-in cut-to-size role share-in-a share-in-b change-a change-b change-c
     change found found-value after link-fits side-by-side share-fits-a share-fits-b fits-a fits-b fits-map fits-role when-named places redo-at redo-page
     redo-places redo-record replay count-places redo-count fits-places redo-fits flat node-of chain first-child collect bottom leaves leaf-records rising
     ends-ok node-ok level-ok matches first-page pages-ok below-ok counted ones root-least levels-ok walk-ok tree-ok entry-or leaf-for fetched first-of

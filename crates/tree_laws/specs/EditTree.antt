@@ -36,7 +36,7 @@ module _ (num : ℕ) (pages : List Page) (lower-numbers : (p : ℕ) → p < leng
       let (wx, wy) = once-in-level pages (length downs) (is-bottom (length downs)) 0 xs p ys 0 (suc top) (k .chained) (k .chain) in
       let (sx, sn, sy) = all-cut (λ z. length (z .items) ≤ room) xs p ys (k .small) in
       let n = length-redo-record num r pages in
-      let fa = at-role num r pages (p .page) as-a (hn .1) (lower-numbers _ (hn .1)) is-a refl
+      let fa = at-role num r pages (p .page) as-a (hn .1) (lower-numbers _ (hn .1)) is-a refl (length downs) (ap (λ y. y .kind) (effect (at pages (p .page))) ∙ hn .2 .kind)
       (subst (λ y. size y ≤ room) (sym (effect (at pages (p .page)))) (subst (λ es. length (f es) ≤ room) (sym (hn .2 .items)) space))
       (subst (λ y. y .level < 16) (sym (effect (at pages (p .page)))) (subst (λ l. l < 16) (sym (hn .2 .level)) deep)) ∙ ap (with-lsn num) (effect (at pages (p .page))) in
       let na = hn .1 in

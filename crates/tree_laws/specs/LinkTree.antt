@@ -68,7 +68,7 @@ module _ (num : ℕ) (pages : List Page) (lower-numbers : (p : ℕ) → p < leng
       let (f, rs) = node-rises (eqb (suc (length downs)) 0) 0 xs p ys (suc top) (k .chain) in
       let es : link-in (q .page) (q .high) (r .page) (e .key) (at pages (p .page) .entries) ≡ linked .items
       = ap (link-in (q .page) (q .high) (r .page) (e .key)) (hn .2 .items) ∙ link-items (q .page) (q .high) (r .page) f (p .items) pre e post rs old in
-      let fa = at-role num row pages (p .page) as-a (hn .1) (lower-numbers _ (hn .1)) (link-role-a (p .page) (q .page) (r .page) (q .high) (e .key)) refl
+      let fa = at-role num row pages (p .page) as-a (hn .1) (lower-numbers _ (hn .1)) (link-role-a (p .page) (q .page) (r .page) (q .high) (e .key)) refl (suc (length downs)) (hn .2 .kind)
       (subst (λ z. length z ≤ room) (sym es) space) (subst (λ l. l < 16) (sym (hn .2 .level)) deep) in
       let na = hn .1 in
       record {

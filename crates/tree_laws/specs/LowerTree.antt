@@ -42,7 +42,7 @@ module _ (num : ℕ) (pages : List Page) (lower-numbers : (p : ℕ) → p < leng
       let ne : 1 ≢ q .page = λ w. let v = g .2 .level in let x : at pages 1 .level ≡ at pages (q .page) .level = ap (λ p. at pages p .level) w in omega arith in
       let hr = h .1 in
       let one-in : 1 < length pages = omega arith in
-      let fa = at-role num low-row pages 1 as-a one-in (lower-numbers 1 one-in) (lower-role-a (length downs) (q .page) (q .items)) refl (lv .1 .0 .small .0) deep in
+      let fa = at-role num low-row pages 1 as-a one-in (lower-numbers 1 one-in) (lower-role-a (length downs) (q .page) (q .items)) refl (length downs) refl (lv .1 .0 .small .0) deep in
       let len = length-redo-record num low-row pages in
       let od = below-away pages (length downs) (q .page) downs (g .2 .level) (omega arith) (lv .1 .1) in (
         (

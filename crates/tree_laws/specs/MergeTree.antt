@@ -39,7 +39,7 @@ module _ (num : ℕ) (pages : List Page) (lower-numbers : (p : ℕ) → p < leng
       let (ux, uq, un) = all-cut (λ z. z .page ≢ r .page) xs q [] vx in
       let (sx, sn, sy) = all-cut (λ z. length (z .items) ≤ room) xs q (r ∷ ys) (k .small) in
       let n = length-redo-record num row pages in
-      let fa = at-role num row pages (q .page) as-a (hn .1) (lower-numbers _ (hn .1)) (merge-role-a _ _ _ _ _) refl
+      let fa = at-role num row pages (q .page) as-a (hn .1) (lower-numbers _ (hn .1)) (merge-role-a _ _ _ _ _) refl (length downs) (hn .2 .kind)
       (subst (λ es. length (es ++ r .items) ≤ room) (sym (hn .2 .items)) space) (subst (λ l. l < 16) (sym (hn .2 .level)) deep) in
       let na = hn .1 in
       record {

@@ -46,8 +46,8 @@ module _ (num : ℕ) (pages : List Page) (lower-numbers : (p : ℕ) → p < leng
       let n1 : c ≢ 1 = λ w. out .0 .0 (root ∙ sym w) in
       let hr = h .1 in
       let one-in : 1 < length pages = omega arith in
-      let fa = at-role num row pages 1 as-a one-in (lower-numbers 1 one-in) (raise-role-a (length downs) (s .page) c (r .high) (r .items)) refl (omega arith) deep in
-      let fc = at-role num row pages c as-c inc (lower-numbers c inc) (raise-role-c (length downs) (s .page) c (r .high) (r .items) n1) refl (k .small .0) (omega arith) in
+      let fa = at-role num row pages 1 as-a one-in (lower-numbers 1 one-in) (raise-role-a (length downs) (s .page) c (r .high) (r .items)) refl (suc (length downs)) refl (omega arith) deep in
+      let fc = at-role num row pages c as-c inc (lower-numbers c inc) (raise-role-c (length downs) (s .page) c (r .high) (r .items) n1) refl (length downs) refl (k .small .0) (omega arith) in
       let hs = h .3 .0 in
       let fs = at-none num row pages (s .page) (h .3 .1) (raise-role-none (length downs) (s .page) c (r .high) (r .items) (s .page) rs (out .0 .1 .0) (omega arith)) in
       let len = length-redo-record num row pages in

@@ -2,25 +2,35 @@
 use Prim.Native.Nat.{ℕ, zero, suc, _%_, _≤_, _<_}
 use mathlib.Core.Path.{_≡_, refl, ap, _∙_}
 use mathlib.Core.Logic.{_≢_}
-use mathlib.Core.Bool.{true}
+use mathlib.Core.Bool.{Bool, true, false}
 use mathlib.Core.List.{List, [], _∷_}
 use native.Mathlib.Omega.{arith}
 use lib.ListN.{length, take}
-use Rattle.base.specs.Tests.{lt-true, eq-true, neq-false}
+use lib.Dec.{eqb}
+use Rattle.base.specs.Tests.{pick, lt-true, eq-true, neq-false}
 use Rattle.layout.specs.declared.Entry.{Entry}
 use Rattle.layout.specs.Entries.{room}
-use Rattle.layout.specs.Pages.{Page, at, size}
+use Rattle.layout.specs.Pages.{leaf, index, Page, kind-at, at, size}
 use Rattle.layout.specs.Records.{Rec, split-row, link-row, unlink-row, merge-row, redistribute-row, raise-row, lower-row}
-use Rattle.model.specs.Change.{with-lsn, cut-to-size, Role, as-a, as-b, as-c, as-map, role, hit, change}
+use Rattle.model.specs.Change.{with-lsn, entries-in, cut-to-size, Role, as-a, as-b, as-c, as-map, role, hit, change}
 use Rattle.model.specs.Change
 use Rattle.model.specs.Redo.{redo-record}
 use Rattle.redo_laws.specs.OnePage.{redo1}
 use Rattle.redo_laws.specs.Area.{get-record}
 
--- A page that has room for its entries and bits for its level is not cut.
-pub cut-to-size-small : (x : Page) → size x ≤ room → x .level < 16 → cut-to-size x ≡ x
+-- Leaves and indexes have room for 14 entries.
+pub entries-at : (lev : ℕ) (es : List Entry) → entries-in (kind-at lev) es ≡ take room es
+unfolding entries-in
+entries-at lev es = by-test (eqb lev 0)
+  where
+    by-test : (b : Bool) → entries-in (pick b leaf index) es ≡ take room es
+    by-test true = refl
+    by-test false = refl
+
+-- A page of the tree that has room for its entries and bits for its level is not cut.
+pub cut-to-size-small : (x : Page) (lev : ℕ) → x .kind ≡ kind-at lev → size x ≤ room → x .level < 16 → cut-to-size x ≡ x
 unfolding cut-to-size
-cut-to-size-small x s l = λ i. record { kind = x .kind; level = level-same i; right = x .right; high = x .high; lsn = x .lsn; own = x .own; entries = take-short room (x .entries) s i; marks = x .marks }
+cut-to-size-small x lev k s l = λ i. record { kind = x .kind; level = level-same i; right = x .right; high = x .high; lsn = x .lsn; own = x .own; entries = entries-same i; marks = x .marks }
   where
     level-same : x .level % 16 ≡ x .level
     level-same = omega arith
@@ -31,6 +41,9 @@ cut-to-size-small x s l = λ i. record { kind = x .kind; level = level-same i; r
     take-short (suc n) [] h = refl
     take-short (suc n) (e ∷ es) h = ap (e ∷_) (take-short n es (omega arith))
 
+    entries-same : entries-in (x .kind) (x .entries) ≡ x .entries
+    entries-same = ap (λ z. entries-in z (x .entries)) k ∙ entries-at lev (x .entries) ∙ take-short room (x .entries) s
+
 -- What a record does at a page, by the page's part.
 pub at-part : (n : ℕ) (r : Rec) (pages : List Page) (p : ℕ) (o : Role) → p < length pages → at pages p .lsn < n → role r p ≡ o → hit o ≡ true
     → at (redo-record n r pages) p ≡ with-lsn n (cut-to-size (change r o (at pages p)))
@@ -39,9 +52,9 @@ at-part n r pages p o h l e k = get-record n r pages p h ∙ rw (e, k, lt-true _
 
 -- The same where the page is not cut.
 pub at-role : (n : ℕ) (r : Rec) (pages : List Page) (p : ℕ) (o : Role) → p < length pages → at pages p .lsn < n → role r p ≡ o → hit o ≡ true
-    → size (change r o (at pages p)) ≤ room → change r o (at pages p) .level < 16
+    → (lev : ℕ) → change r o (at pages p) .kind ≡ kind-at lev → size (change r o (at pages p)) ≤ room → change r o (at pages p) .level < 16
     → at (redo-record n r pages) p ≡ with-lsn n (change r o (at pages p))
-at-role n r pages p o h l e k s d = at-part n r pages p o h l e k ∙ ap (with-lsn n) (cut-to-size-small (change r o (at pages p)) s d)
+at-role n r pages p o h l e k lev j s d = at-part n r pages p o h l e k ∙ ap (with-lsn n) (cut-to-size-small (change r o (at pages p)) lev j s d)
 
 pub at-none : (n : ℕ) (r : Rec) (pages : List Page) (p : ℕ) → p < length pages → role r p ≡ Change.none → at (redo-record n r pages) p ≡ at pages p
 unfolding redo1

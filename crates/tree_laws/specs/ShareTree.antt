@@ -65,9 +65,9 @@ module _ (num : ℕ) (pages : List Page) (lower-numbers : (p : ℕ) → p < leng
       let n = length-redo-record num row pages in
       let ea = ap (share-in-a (into-a row) row) (hn .2 .items) ∙ share-in-a-is (into-a row) row (q .items) in
       let eb = ap (share-in-b (into-a row) row) (hn .3 .2 .items) ∙ share-in-b-is (into-a row) row (r .items) in
-      let fa = at-role num row pages (q .page) as-a (hn .1) (lower-numbers _ (hn .1)) (redistribute-role-a _ _ _ _) refl
+      let fa = at-role num row pages (q .page) as-a (hn .1) (lower-numbers _ (hn .1)) (redistribute-role-a _ _ _ _) refl (length downs) (hn .2 .kind)
       (subst (λ z. length z ≤ room) (sym ea) c₁) (subst (λ l. l < 16) (sym (hn .2 .level)) deep) in
-      let fb = at-role num row pages (r .page) as-b (hn .3 .1) (lower-numbers _ (hn .3 .1)) (redistribute-role-b _ _ _ _ (wy .0)) refl
+      let fb = at-role num row pages (r .page) as-b (hn .3 .1) (lower-numbers _ (hn .3 .1)) (redistribute-role-b _ _ _ _ (wy .0)) refl (length downs) (hn .3 .2 .kind)
       (subst (λ z. length z ≤ room) (sym eb) c₂) (subst (λ l. l < 16) (sym (hn .3 .2 .level)) deep) in
       let na = hn .1 in
       let nb = hn .3 .1 in

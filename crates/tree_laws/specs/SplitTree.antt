@@ -52,9 +52,9 @@ module _ (num : ℕ) (pages : List Page) (fresh : (p : ℕ) → p < length pages
   split-chained c₁ c₂ inb posb nb ax ay h =
       let (hx, hn) = chained-cut pages lev xs (n ∷ ys) next h in
       let l = length-redo-record num row pages in
-      let fa = at-role num row pages (n .page) as-a (hn .1) (fresh _ (hn .1)) (split-role-a _ _ _ _ _ _ _) refl
+      let fa = at-role num row pages (n .page) as-a (hn .1) (fresh _ (hn .1)) (split-role-a _ _ _ _ _ _ _) refl lev (hn .2 .kind)
       (subst (λ es. length (kept moved es) ≤ room) (sym (hn .2 .items)) c₁) (subst (λ l. l < 16) (sym (hn .2 .level)) deep) in
-      let fb = at-role num row pages b as-b inb (fresh _ inb) (split-role-b _ _ _ _ _ _ _ nb) refl c₂ deep in
+      let fb = at-role num row pages b as-b inb (fresh _ inb) (split-role-b _ _ _ _ _ _ _ nb) refl lev refl c₂ deep in
       let na = hn .1 in
       chained-append (redo-record num row pages) lev xs (left-half n key moved ∷ right-half n b moved ∷ ys) next (chained-frame pages _ lev xs (n .page) l (away xs _ ax hx) hx) (
         hn .0,

@@ -2,19 +2,14 @@
 use borrow.Author.Needs.{needs}
 use Rattle.change.proofs.apply.Statement.{statement}
 use Rattle.change.proofs.apply.Tie as tie
-use mathlib.Core.Path.{_∙_, ap}
 use Rattle.page.specs.Typed.{typed}
-use Rattle.model.specs.Change.{Role}
-use Rattle.change.specs.Roles.{able}
 use Rattle.change.specs.Changes.{stamped}
 
 role-of-requires : tie.Need-role-of-requires
 role-of-requires c κs = search needs
 
 change-requires : tie.Need-change-requires
-change-requires c κs =
-    let a = c .before .args in
-    (ap (λ (o : Role). able o (a .x .kind)) (c .role-of .ensures) ∙ c .before .pre .0, c .before .pre .1, c .before .pre .2)
+change-requires c κs = search needs
 
 returns : tie.Need-returns
 unfolding typed

@@ -3,20 +3,16 @@ use borrow.Author.Needs.{needs}
 use Rattle.change.proofs.change.Statement.{statement}
 use Rattle.change.proofs.change.Tie as tie
 use native.Mathlib.Omega.{arith}
-use Rattle.change.specs.Changes.{change-none, change-as-a, change-as-b, change-as-c, change-as-map, able-a, able-b}
+use Rattle.change.specs.Changes.{change-none, change-as-a, change-as-b, change-as-c, change-as-map}
 
 cut-requires : tie.Need-cut-requires
 cut-requires c κs = search needs
 
 change-a-requires : tie.Need-change-a-requires
-change-a-requires c κs =
-    let a = c .before .args in
-    (able-a (a .role) (a .x .kind) (c .match .keys2) (c .before .pre .0), c .before .pre .1, c .before .pre .2)
+change-a-requires c κs = search needs
 
 change-b-requires : tie.Need-change-b-requires
-change-b-requires c κs =
-    let a = c .before .args in
-    (able-b (a .role) (a .x .kind) (c .match .keys3) (c .before .pre .0), c .before .pre .1, c .before .pre .2)
+change-b-requires c κs = search needs
 
 filled-requires : tie.Need-filled-requires
 filled-requires c κs = search needs

@@ -72,37 +72,37 @@ cut-requires c κs = search needs
 returns : tie.Need-returns
 returns c =
     let a = c .before .before .before .before .before .before .before .args in
-    a-insert (a .r) (a .x) _ (c .before .before .before .before .before .before .before .pre .0) _ (c .before .before .match .keys1) (c .before .insert-key .ensures .0) (c .with-list .ensures)
+    a-insert (a .r) (a .x) _ _ (c .before .before .match .keys1) (c .before .insert-key .ensures .0) (c .with-list .ensures)
 
 returns-2 : tie.Need-returns-2
 returns-2 c =
     let a = c .before .before .before .before .before .before .before .args in
-    a-undo-delete (a .r) (a .x) _ (c .before .before .before .before .before .before .before .pre .0) _ (c .before .before .match .keys2) (c .before .insert-key2 .ensures .0) (c .with-list2 .ensures)
+    a-undo-delete (a .r) (a .x) _ _ (c .before .before .match .keys2) (c .before .insert-key2 .ensures .0) (c .with-list2 .ensures)
 
 returns-3 : tie.Need-returns-3
 returns-3 c =
     let a = c .before .before .before .before .before .before .before .args in
-    a-split (a .r) (a .x) _ (c .before .before .before .before .before .before .before .pre .0) (c .before .without-last .result .count) (c .before .without-last .result .entries) (c .before .before .match .keys3) (c .before .without-last .ensures .1) (c .before .without-last .ensures .0) (c .renew .ensures)
+    a-split (a .r) (a .x) _ (c .before .without-last .result .count) (c .before .without-last .result .entries) (c .before .before .match .keys3) (c .before .without-last .ensures .1) (c .before .without-last .ensures .0) (c .renew .ensures)
 
 returns-4 : tie.Need-returns-4
 returns-4 c =
     let a = c .before .before .before .before .before .before .before .args in
-    a-link (a .r) (a .x) _ (c .before .before .before .before .before .before .before .pre .0) _ (c .before .before .match .keys4) (c .before .link-in .ensures .0) (c .with-list3 .ensures)
+    a-link (a .r) (a .x) _ _ (c .before .before .match .keys4) (c .before .link-in .ensures .0) (c .with-list3 .ensures)
 
 returns-5 : tie.Need-returns-5
 returns-5 c =
     let a = c .before .before .before .before .before .before .before .args in
-    a-unlink (a .r) (a .x) _ (c .before .before .before .before .before .before .before .pre .0) _ (c .before .before .match .keys5) (c .before .unlink-in .ensures .0) (c .with-list4 .ensures)
+    a-unlink (a .r) (a .x) _ _ (c .before .before .match .keys5) (c .before .unlink-in .ensures .0) (c .with-list4 .ensures)
 
 returns-6 : tie.Need-returns-6
 returns-6 c =
     let a = c .before .before .before .before .before .before .before .args in
-    a-merge (a .r) (a .x) _ (c .before .before .before .before .before .before .before .pre .0) _ (c .before .before .match .keys6) (c .before .join .ensures .0) (c .renew2 .ensures)
+    a-merge (a .r) (a .x) _ _ (c .before .before .match .keys6) (c .before .join .ensures .0) (c .renew2 .ensures)
 
 returns-7 : tie.Need-returns-7
 returns-7 c =
     let a = c .before .before .before .before .before .before .before .args in
-    a-share (a .r) (a .x) _ (c .before .before .before .before .before .before .before .pre .0) _ (c .before .before .match .keys7) (c .before .share-a .ensures .0) (c .renew3 .ensures)
+    a-share (a .r) (a .x) _ _ (c .before .before .match .keys7) (c .before .share-a .ensures .0) (c .renew3 .ensures)
 
 returns-8 : tie.Need-returns-8
 returns-8 c = let a = c .before .before .before .before .before .before .args in a-raise (a .r) (a .x) _ (c .before .match .keys8) (c .raised .ensures)
@@ -113,7 +113,7 @@ returns-9 c = let a = c .before .before .before .before .before .before .args in
 returns-10 : tie.Need-returns-10
 returns-10 c =
     let a = c .before .before .before .before .before .before .before .before .before .args in
-    a-delete (a .r) (a .x) _ (c .before .before .before .before .before .before .before .before .before .pre .0) _ (past 2 (a .r .kind) (c .before .before .before .if1 .left) (c .before .before .before .before .match .rest .0 .0 .0 .0 .0 .0 .0 .0 .1)) (c .before .before .if2 .taken) (c .before .remove-key .ensures .0) (c .with-list5 .ensures)
+    a-delete (a .r) (a .x) _ _ (past 2 (a .r .kind) (c .before .before .before .if1 .left) (c .before .before .before .before .match .rest .0 .0 .0 .0 .0 .0 .0 .0 .1)) (c .before .before .if2 .taken) (c .before .remove-key .ensures .0) (c .with-list5 .ensures)
 
 returns-11 : tie.Need-returns-11
 returns-11 c =

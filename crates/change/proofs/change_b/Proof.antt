@@ -34,7 +34,7 @@ returns-2 c = let a = c .before .before .before .before .args in b-merge (a .r) 
 returns-3 : tie.Need-returns-3
 returns-3 c =
     let a = c .before .before .before .before .before .args in
-    b-share (a .r) (a .x) _ (c .before .before .before .before .before .pre .0) _ (c .before .before .match .keys3) (c .before .share-b .ensures .0) (c .with-list .ensures)
+    b-share (a .r) (a .x) _ _ (c .before .before .match .keys3) (c .before .share-b .ensures .0) (c .with-list .ensures)
 
 returns-4 : tie.Need-returns-4
 returns-4 c = let a = c .before .before .before .before .args in b-lower (a .r) (a .x) _ (c .before .match .keys4) (c .free-page2 .ensures)

@@ -16,7 +16,7 @@ node-requires c κs = search needs
 returns : tie.Need-returns
 returns c =
     let a = c .before .before .before .before .args in
-    filled _ (a .r .level) (a .own) (a .right) (a .high) (a .r .count) (a .r .entries) _ (c .before .kind-at .ensures .0) (c .before .before .before .before .pre) (c .node .ensures)
+    filled _ (a .r .level) (a .own) (a .right) (a .high) (a .r .count) (a .r .entries) _ (c .before .kind-at .ensures .0) (c .before .kind-at .ensures .1) (c .before .before .before .before .pre) (c .node .ensures)
 
 pub filled-spec : {M : Type 1} → statement M
 filled-spec = tie.close (tie.spec cast-t7 kind-at-requires node-requires returns)

@@ -1,14 +1,20 @@
--- `renew`: a page that has entries, with others.
+-- `renew`: the map, or a page that has entries, with others.
 use borrow.Author.Needs.{needs}
 use Rattle.change.proofs.renew.Statement.{statement}
 use Rattle.change.proofs.renew.Tie as tie
-use Rattle.change.specs.Pages.{renew-typed}
-
-cast-t7 : tie.Need-cast-t7
-cast-t7 c = search needs
+use Rattle.change.specs.Lists.{listed}
+use Rattle.change.specs.Pages.{renew-typed, renew-map}
 
 returns : tie.Need-returns
-returns c = let a = c .before .before .before .args in renew-typed (a .x) (a .right) (a .high) (a .l .count) (a .l .entries) (c .before .before .before .pre .0) (c .before .before .before .pre .1)
+returns c = let a = c .before .before .before .before .args in renew-map (a .x) (a .right) (a .high) (listed (a .l)) (c .before .before .if1 .taken)
+
+cast-t10 : tie.Need-cast-t10
+cast-t10 c = search needs
+
+returns-2 : tie.Need-returns-2
+returns-2 c =
+    let a = c .before .before .before .before .before .args in
+    renew-typed (a .x) (a .right) (a .high) (a .l .count) (a .l .entries) (c .before .before .before .if1 .left) (c .before .before .before .before .before .pre)
 
 pub renew-spec : {M : Type 1} → statement M
-renew-spec = tie.close (tie.spec cast-t7 returns)
+renew-spec = tie.close (tie.spec returns cast-t10 returns-2)
