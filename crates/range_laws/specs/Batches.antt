@@ -11,7 +11,7 @@ use Rattle.layout.specs.Entries.{top}
 use Rattle.layout.specs.Records.{Rec, Kind, begin, insert, delete, undo-insert, undo-delete, commit, abort-mark, end, split, link, unlink, merge, redistribute, raise, lower}
 use Rattle.model.specs.Batches.{Line, Batch, find-batch, change-batch, drop-batch, rest-of, next-undo, written, undone, mark-set, tell, follows, unmarked, undoes-line, newest-is, undoes, nothing-pending, chains}
 use Rattle.ledger_laws.specs.Batching.{LinesWithin, Within, find-number}
-use Rattle.range_laws.specs.Each.{Each, each-append, each-map}
+use Rattle.width_laws.specs.Each.{Each, each-append, each-map}
 
 -- ---- one batch of a list
 

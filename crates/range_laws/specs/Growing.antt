@@ -17,7 +17,7 @@ use Rattle.history_laws.specs.Start.{base, pages-after, length-after, after-cur
 use Rattle.history_laws.specs.Core.{NamesOk}
 use Rattle.history_laws.specs.History.{History, history-now}
 use Rattle.page.specs.Fields.{Fits as PageFits}
-use Rattle.range_laws.specs.Records.{AllFit}
+use Rattle.range_laws.specs.Pages.{AllFit}
 use Rattle.range_laws.specs.Histories.{base-fits, RangedHistory}
 
 names-all-inside : (n : ℕ) (log : List Rec) → 0 < n → NamesOk n log → AllInside n log

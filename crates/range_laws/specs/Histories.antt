@@ -20,10 +20,10 @@ use Rattle.history_laws.specs.Trail.{Trail, stay, more}
 use Rattle.history_laws.specs.History.{run-after, first-parts, Standing, trail-standing}
 use Rattle.page.specs.Fields.{BodyFits, Fits as PageFits}
 use Rattle.area_laws.specs.Logs.{AllFit as RecordsFit}
-use Rattle.range_laws.specs.Each.{Each}
-use Rattle.range_laws.specs.Fine.{fine-at}
+use Rattle.width_laws.specs.Each.{Each}
+use Rattle.width_laws.specs.Fine.{fine-at}
 use Rattle.range_laws.specs.Batches.{Valued, Lasts}
-use Rattle.range_laws.specs.Records.{AllFit}
+use Rattle.range_laws.specs.Pages.{AllFit}
 use Rattle.range_laws.specs.Ranged.{Ranged, ranged-more}
 
 -- ---- the start

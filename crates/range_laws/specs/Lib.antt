@@ -1,9 +1,6 @@
-pub mod Each
-pub mod Fine
 pub mod Pages
 pub mod Batches
 pub mod Records
-pub mod Parts
 pub mod Ranged
 pub mod Histories
 pub mod Growing

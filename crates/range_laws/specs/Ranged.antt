@@ -26,10 +26,10 @@ use Rattle.history_laws.specs.Trail.{Trail, stay, more, trail-core}
 use Rattle.page.specs.Fields.{read-block-back}
 use Rattle.slot.specs.Codec.{Fits as RecordFits, read-slot-back}
 use Rattle.area_laws.specs.Logs.{AllFit as RecordsFit, fit-append}
-use Rattle.range_laws.specs.Each.{Each}
+use Rattle.width_laws.specs.Each.{Each}
 use Rattle.range_laws.specs.Batches.{Valued, values-tell, Lasts, lasts-tell, of-batch, Says, chains-say}
-use Rattle.range_laws.specs.Records.{AllFit, step-fits}
-use Rattle.range_laws.specs.Parts.{step-apart, pages-fit}
+use Rattle.range_laws.specs.Pages.{AllFit, pages-fit}
+use Rattle.range_laws.specs.Records.{step-fits}
 
 -- ---- the log's records
 
@@ -74,14 +74,13 @@ pub ranged-more : (n : ℕ) → n ≤ map-bits → (s : Run) (sl sl′ : List En
 unfolding RecordsFit
 ranged-more n most s sl sl′ r c x low g =
     let f = next-fits n most s sl sl′ r c x low g in
-    let k : Rules (s .pages) (levels-of (s .pages)) = test-sound (s .pages) (c .tree) in
     let d = c .due in
     let num : s .due ≡ 1 + length (s .log) = omega arith in
     let v = f .second in
     let len : length (s .log ++ r ∷ []) ≡ suc (length (s .log)) = let l = length-append (s .log) (r ∷ []) in omega arith in
     let tells = open-more (s .log) r in
     record {
-      pages = pages-fit (s .due) r (s .pages) f (step-apart (s .pages) (levels-of (s .pages)) (x .after) r (x .step) k) (c .laid) (g .pages);
+      pages = pages-fit (s .due) r (s .pages) f (g .pages);
       records = fit-append 1 (s .log) (r ∷ []) (g .records) (subst (λ m. RecordFits m r) num f, tt);
       values = subst (Each Valued) (sym tells) (values-tell (r .kind) (suc (length (s .log))) r (open-batches (s .log)) (omega arith) (g .values));
       lasts = subst (λ m. Each (Lasts m) (open-batches (s .log ++ r ∷ []))) (sym len) (subst (Each (Lasts (suc (length (s .log))))) (sym tells) (lasts-tell (r .kind) (length (s .log)) r (open-batches (s .log)) (g .lasts)));

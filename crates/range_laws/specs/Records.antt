@@ -1,6 +1,6 @@
 -- EVERY STEP'S RECORD FITS its fields where the pages fit theirs: page numbers, levels, keys and entries come from the tree.
 use Prim.Native.Nat.{ℕ, _≤_, _<_, _^_}
-use mathlib.Core.Path.{_≡_, refl, sym, ap, _∙_, subst}
+use mathlib.Core.Path.{_≡_, refl, ap, _∙_, subst}
 use mathlib.Core.Bool.{true}
 use mathlib.Core.List.{List, [], _∷_, _++_}
 use native.Mathlib.Omega.{arith}
@@ -24,11 +24,10 @@ use Rattle.tree_laws.specs.Steps.{Adding, by-insert, by-undo-delete, Removing, 
 use Rattle.tree_laws.specs.StepNames.{under-pages}
 use Rattle.page_laws.specs.Rows.{Begins}
 use Rattle.entries.specs.EntryBytes.{EntryFits}
-use Rattle.page.specs.Fields.{Fits as PageFits}
 use Rattle.slot.specs.Codec.{Fits as RecordFits}
-use Rattle.range_laws.specs.Each.{Each, each-append, each-cut}
-use Rattle.range_laws.specs.Fine.{Fine, fine-at, at-fine, fine-look}
-use Rattle.range_laws.specs.Pages.{Plain, plain-at, body-node}
+use Rattle.width_laws.specs.Each.{Each, each-append, each-cut}
+use Rattle.width_laws.specs.Fine.{Fine, fine-at, at-fine, fine-look}
+use Rattle.range_laws.specs.Pages.{AllFit, node-fits}
 use Rattle.range_laws.specs.Batches.{of-batch, Says}
 
 -- The numbers of a node of the tree, and of its right link.
@@ -38,9 +37,6 @@ pub record Held (n : Node) (next : ℕ) : Type 0 where
   pub items : Fine (n .items)
   pub count : length (n .items) ≤ 14
   pub link : next < 1024
-
-abbrev pub AllFit : List Page → Type 0
-AllFit pages = (p : ℕ) → p < length pages → PageFits (at pages p)
 
 pub held : (pages : List Page) → length pages ≤ map-bits → AllFit pages → (l next : ℕ) (n : Node)
     → (0 < n .page) × (n .page < length pages) × IsNode (at pages (n .page)) l next n → Held n next
@@ -52,7 +48,7 @@ held pages few fit l next n h =
     let hr = f .right in
     let e = i .high in
     let g = i .right in
-    let b = body-node (at pages (n .page) .kind) (at pages (n .page)) (subst Plain (sym (i .kind)) (plain-at l)) (f .body) in
+    let b = node-fits l (at pages (n .page)) (i .kind) f in
     record {
       page = omega arith;
       high = omega arith;

@@ -12,7 +12,7 @@ use Rattle.layout.specs.Entries.{entry, entry-at, no-entry, look, insert-sorted
 use Rattle.layout.specs.Records.{Rec}
 use Rattle.model.specs.Change.{link-in, unlink-in, share-in-a, share-in-b}
 use Rattle.entries.specs.EntryBytes.{EntryFits}
-use Rattle.range_laws.specs.Each.{Each, each-append, each-take, each-drop, each-at, at-each}
+use Rattle.width_laws.specs.Each.{Each, each-append, each-take, each-drop, each-at, at-each}
 
 abbrev pub Fine : List Entry → Type 0
 Fine es = Each EntryFits es
