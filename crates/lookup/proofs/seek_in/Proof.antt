@@ -1,0 +1,50 @@
+-- `seek_in`: the search in the entries that there are ends at an entry or past them.
+use borrow.Author.Needs.{needs}
+use Rattle.lookup.proofs.seek_in.Statement.{statement}
+use Rattle.lookup.proofs.seek_in.Tie as tie
+use mathlib.Core.Path.{_≡_}
+use lib.ListN.{length, length-map}
+use Rattle.lookup.specs.Searched.{seek-at, seek-none}
+
+searched-requires : tie.Need-searched-requires
+searched-requires c κs = search needs
+
+find-requires : tie.Need-find-requires
+find-requires c κs = search needs
+
+mul-t8 : tie.Need-mul-t8
+mul-t8 c = search needs
+
+element-copy-out-t11 : tie.Need-element-copy-out-t11
+element-copy-out-t11 c = search needs
+
+mul-t12 : tie.Need-mul-t12
+mul-t12 c = search needs
+
+element-copy-out-t15 : tie.Need-element-copy-out-t15
+element-copy-out-t15 c = search needs
+
+returns : tie.Need-returns
+returns c =
+    let a = c .before .before .before .before .args in
+    let h : length (a .x .entries) ≡ 14 = simp length-map at (c .before .before .before .before .good .0 .1 .1 .1 .1 .1 .1 .1 .1 .1 .0 .1 .0 .1) in
+    seek-at (a .x) (a .k) h _ _ (c .before .before .before .searched .ensures .0) (c .before .find .ensures .0) (c .if1 .taken)
+
+returns-2 : tie.Need-returns-2
+returns-2 c =
+    let a = c .before .before .before .before .args in
+    let h : length (a .x .entries) ≡ 14 = simp length-map at (c .before .before .before .before .good .0 .1 .1 .1 .1 .1 .1 .1 .1 .1 .0 .1 .0 .1) in
+    seek-none (a .x) (a .k) h _ _ (c .before .before .before .searched .ensures .0) (c .before .find .ensures .0) (c .if1 .left)
+
+pub seek-in-spec : {M : Type 1} → statement M
+seek-in-spec =
+    tie.close
+    (tie.spec
+    searched-requires
+    find-requires
+    mul-t8
+    element-copy-out-t11
+    mul-t12
+    element-copy-out-t15
+    returns
+    returns-2)
