@@ -3,6 +3,8 @@ use borrow.Author.Needs.{needs}
 use Rattle.lookup.proofs.covering.Statement.{statement}
 use Rattle.lookup.proofs.covering.Tie as tie
 use mathlib.Core.Path.{refl}
+use Prim.Native.Nat.{_<_, _≤_}
+use native.Mathlib.Omega.{arith}
 use Rattle.page.specs.Areas.{pages-of}
 use Rattle.lookup.specs.Descent.{covering-here, covering-after}
 
@@ -12,7 +14,8 @@ nth-page-requires c κs = search needs
 returns : tie.Need-returns
 returns c =
     let a = c .before .before .before .before .args in
-    covering-here (a .k) (a .p) (pages-of (a .n) (a .pages .now)) _ (c .before .before .nth-page .ensures) (c .if1 .taken)
+    let h : a .k ≤ c .before .before .nth-page .result .high = omega arith in
+    covering-here (a .k) (a .p) (pages-of (a .n) (a .pages .now)) _ (c .before .before .nth-page .ensures) h
 
 cast-q : tie.Need-cast-q
 cast-q c = search needs
@@ -23,7 +26,8 @@ nth-page-requires-2 c κs = search needs
 returns-2 : tie.Need-returns-2
 returns-2 c =
     let a = c .before .before .before .before .before .before .args in
-    covering-after (a .k) (a .p) (pages-of (a .n) (a .pages .now)) _ _ _ (c .before .before .before .before .nth-page .ensures) (c .before .before .if1 .left) refl (c .nth-page2 .ensures)
+    let h : c .before .before .before .before .nth-page .result .high < a .k = omega arith in
+    covering-after (a .k) (a .p) (pages-of (a .n) (a .pages .now)) _ _ _ (c .before .before .before .before .nth-page .ensures) h refl (c .nth-page2 .ensures)
 
 pub covering-spec : {M : Type 1} → statement M
 covering-spec = tie.close (tie.spec nth-page-requires returns cast-q nth-page-requires-2 returns-2)

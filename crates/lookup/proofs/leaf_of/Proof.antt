@@ -35,7 +35,7 @@ loop-again : tie.Need-loop-again Inv-loop μ-loop
 loop-again c =
     let a = c .before .before .before .before .before .args in
     let l = c .before .before .loop in
-    l .inv ∙ leaf-step (a .k) (l .p) (pages-of (a .n) (a .pages .now)) (l .l) _ (c .before .loop-test .taken) (c .child-for .ensures)
+    l .inv ∙ leaf-step (a .k) (l .p) (pages-of (a .n) (a .pages .now)) (l .l) _ (omega arith) (c .child-for .ensures)
 
 covering-requires : tie.Need-covering-requires Inv-loop μ-loop
 covering-requires c κs = search needs
