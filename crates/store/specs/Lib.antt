@@ -1,0 +1,4 @@
+pub mod Runs
+pub mod Cut
+pub mod Stored
+pub mod WriteOut
