@@ -1,0 +1,48 @@
+-- The formatting as the definitions' call: what it answers, and the four areas that it leaves by a budget.
+use mathlib.Core.Path.{_≡_, ap, ap₂, sym, _∙_}
+use Prim.Native.Nat.{ℕ, _/_}
+use mathlib.Core.Bool.{Bool, true}
+use mathlib.Core.List.{List, map}
+use lib.ListN.{length, replicate, take}
+use Rattle.layout.specs.declared.Desk.{Desk}
+use Rattle.layout.specs.Desks.{empty-desk}
+use Rattle.layout.specs.PageBytes.{page, page-size}
+use Rattle.layout.specs.RecordBytes.{empty, slot-size}
+use Rattle.model.specs.declared.Answer.the-variants.{Done}
+use Rattle.model.specs.Calls.{formatted-pages, format-stores, format-areas}
+use Rattle.model.specs.OnBytes.{Lent, Result, format, lengths-ok, read-areas, pages-bytes, log-bytes, outcome, call-by, call, store-all-bytes, lent-after}
+use Rattle.area_laws.specs.Pages.{read-pages-length}
+use Rattle.area_laws.specs.Logs.{read-log-length}
+use Rattle.lend.specs.Lent.{lent, Sized, lengths-numbers}
+use Rattle.format.specs.Formatted.{Formatted}
+
+abbrev formatted-result : ℕ → ℕ → Result
+formatted-result n m =
+    record {
+      answer = Done;
+      work-pages = pages-bytes (map page (formatted-pages n));
+      work-log = log-bytes (replicate m empty);
+      desk = empty-desk;
+      stores = format-stores (formatted-pages n) m;
+    }
+
+-- ANSWERED where refusal 1 finds nothing.
+pub format-result : (l : Lent) (d : Desk) → lengths-ok l ≡ true
+    → call format l d ≡ formatted-result (length (l .work-pages) / page-size) (length (l .work-log) / slot-size)
+unfolding call call-by outcome format-areas read-areas
+format-result l d e =
+    let h : Sized (l .work-pages) (l .stable-pages) (l .work-log) (l .stable-log) = lengths-numbers (l .work-pages) (l .stable-pages) (l .work-log) (l .stable-log) e in
+    ap (λ (b : Bool). call-by b format l d) e
+    ∙ ap₂ formatted-result
+    (read-pages-length (length (l .work-pages) / page-size) (l .work-pages) (h .0))
+    (read-log-length (length (l .work-log) / slot-size) (l .work-log) (h .4))
+
+-- LEFT: what the program leaves is what the call leaves by that budget.
+pub format-left : (budget : ℕ) (l after : Lent) (d : Desk) → lengths-ok l ≡ true → Formatted budget l after → after ≡ lent-after budget (call format l d) l
+unfolding lent-after
+format-left budget l after d e f =
+    let r : Result = formatted-result (length (l .work-pages) / page-size) (length (l .work-log) / slot-size) in
+    let s : Lent = store-all-bytes (take budget (r .stores)) l in
+    ap₂ (λ (p b : List ℕ). lent p b (after .work-log) (after .stable-log)) (f .work-pages) (f .stable-pages)
+    ∙ ap₂ (λ (g b : List ℕ). lent (r .work-pages) (s .stable-pages) g b) (f .work-log) (f .stable-log)
+    ∙ ap (λ (q : Result). lent-after budget q l) (sym (format-result l d e))
