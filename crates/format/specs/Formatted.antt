@@ -15,7 +15,7 @@ use Rattle.model.specs.Calls.{formatted-pages, page-stores, format-stores}
 use Rattle.model.specs.OnBytes.{Lent, joined, pages-bytes, log-bytes, store-all-bytes}
 use Rattle.bytes.specs.Patch.{patch, patch-zero, patch-patch}
 use Rattle.page.specs.Fields.{page-bytes-length}
-use Rattle.history_laws.specs.Start.{formatted-length}
+use Rattle.area_laws.specs.Typed.{formatted-length}
 use Rattle.area_laws.specs.Parts.{map-same, wide-blank}
 use Rattle.area_laws.specs.Pages.{zero-pages-bytes}
 use Rattle.area_laws.specs.Logs.{empty-bytes}

@@ -85,7 +85,7 @@ unfolding pages-bytes joined block-bytes
 page-part xs p h =
     pages-part xs p 1 ∙ ap (λ (ys : List Page). pages-bytes (map page (take 1 ys))) (drop-cons xs p zero-page h) ∙ append-nil (page-bytes (at xs p))
 
--- ONE PAGE, of whose bytes a part of the working pages is.
+-- ONE PAGE, whose bytes stand in the working pages.
 pub page-stored : (wp : List ℕ) (p : ℕ) (x : Page) (budget : ℕ) (l : Lent) → part wp (page-size * p) page-size ≡ page-bytes x
     → store-all-bytes (take budget (store-page p x ∷ [])) l ≡ with-pages l (copied (l .stable-pages) wp (page-size * p) (page-size * min budget 1))
 unfolding store-all-bytes store-bytes
