@@ -14,7 +14,7 @@ use Rattle.layout.specs.Entries.{entry-at, no-entry, room}
 use Rattle.layout.specs.Numbers.{be32, put32, tab, chunks, read-entry, entry-bytes, entries-bytes, same-bytes}
 use Rattle.layout.specs.Pages.{Page, PageKind, free, leaf, index, storage-map, page-kind, map-bits, at, layout, layout-by, own-ok, bare}
 use Rattle.layout.specs.PageBytes.{Block, page, page-size, page-front, page-body, page-bytes, page-fields, marks-word, marks-bytes, read-entries, read-marks, read-mark, block-by, read-block}
-use Rattle.model.specs.Areas.{page-in, block-ok, blocks-ok}
+use Rattle.model.specs.Areas.{block-ok, blocks-ok}
 use Rattle.model.specs.Areas as areas
 use Rattle.bytes.specs.Words.{Bytes, be32-lt}
 use Rattle.bytes.specs.Pieces.{read-all, read-all-length, write-all, All}
@@ -24,6 +24,7 @@ use Rattle.entries.specs.EntryBytes.{EntryFits, read-entry-fits}
 use Rattle.page.specs.Typed.{front-word}
 use Rattle.page.specs.Fields.{Fits, BodyFits, NodeFits}
 use Rattle.page.specs.Areas.{blocks-of, pages-of, pages-bytes}
+use Rattle.area_laws.specs.Typed.{pages-back}
 use Rattle.area_laws.specs.Pages.{AllPagesFit}
 
 -- ---- a page's bytes are bytes
@@ -157,11 +158,6 @@ pub record Laid (n : ℕ) (area : List ℕ) : Type 0 where
   pub fits : AllPagesFit (pages-of n area)
   pub size : length (pages-of n area) ≡ n
 
-pages-in : (xs : List Page) → areas.pages-of (map page xs) ≡ xs
-unfolding page-in
-pages-in [] = refl
-pages-in (x ∷ xs) = ap (λ (ys : List Page). x ∷ ys) (pages-in xs)
-
 all-fit : (xs : List Page) → All Fits xs → AllPagesFit xs
 unfolding All
 all-fit [] f p h = absurd (omega arith)
@@ -188,7 +184,7 @@ laid-pages n area l size =
     let h = laid-from n 0 n area l size in
     record {
       blocks = h .0;
-      shown = ap areas.pages-of (h .0) ∙ pages-in (pages-of n area);
+      shown = ap areas.pages-of (h .0) ∙ pages-back (pages-of n area);
       bytes = h .1;
       fits = all-fit (pages-of n area) (h .2);
       size = read-all-length page-size page-fields n area;

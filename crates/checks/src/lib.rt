@@ -1,15 +1,23 @@
 // What "sound" asks of the lent bytes apart from the tree and the log's chain: layouts, log numbers, the stored log, the desk and the reserves.
 use bytes::get32;
+use bytes::is_zero;
+use bytes::same_part;
 use page::page_ok;
 ghost use mathlib.Core.Path.{_≡_};
-ghost use Prim.Native.Nat.{_+_, _*_, _≤_, _<_};
-ghost use lib.ListN.{length};
+ghost use mathlib.Core.List.{List};
+ghost use Prim.Native.Nat.{_+_, _-_, _*_, _%_, _≤_, _<_};
+ghost use lib.ListN.{length, drop};
+ghost use Rattle.layout.specs.Numbers.{same-bytes, zeros};
 ghost use Rattle.layout.specs.PageBytes.{read-block};
+ghost use Rattle.layout.specs.Records.{Rec};
 ghost use Rattle.model.specs.Areas.{blocks-ok};
+ghost use Rattle.model.specs.Log.{log-area};
 ghost use Rattle.model.specs.Sound.{numbers-ok};
 ghost use Rattle.bytes.specs.Words.{part};
 ghost use Rattle.page.specs.Areas.{blocks-of, pages-of};
 ghost use Rattle.page.specs.Judged.{block-keeps};
+ghost use Rattle.slot.specs.Areas.{slots-of};
+ghost use Rattle.checks.specs.Stored.{stored-is};
 
 fn page_at_ok(pages: &[u8], n: usize, p: usize) -> bool
     requires { ⌜ (length (now pages) ≡ 128 * n) × (n ≤ 896) × (p < n) ⌝ }
@@ -47,4 +55,33 @@ pub fn numbers_ok(pages: &[u8], n: usize, last: u32) -> bool
         p += 1;
     }
     true
+}
+
+// Whether all bytes from a on are zero.
+fn zero_from(s: &[u8], a: usize) -> bool
+    requires { ⌜ (a ≤ length (now s)) × (a % 4 ≡ 0) × (length (now s) % 4 ≡ 0) ⌝ }
+    ensures { λ r. ⌜ r ≡ same-bytes (zeros (length (now (s .entry)) - a)) (drop a (now (s .entry))) ⌝ }
+{
+    let n = s.len();
+    is_zero(&s[a..n])
+}
+
+// "the stored count is the number of full stable slots, and these equal the working ones", of a working log of `logged` records and empty slots
+// after them.
+pub fn stored_ok(wl: &[u8], sl: &[u8], m: usize, logged: u32, stored: u32) -> bool
+    requires { ⌜ (length (now wl) ≡ 144 * m) × (length (now sl) ≡ 144 * m) × (m ≤ 16384) ⌝ }
+    ensures { λ r. ⌜ ((l : List Rec) → length l ≡ logged → slots-of m (now (wl .entry)) ≡ log-area m l → r ≡ stored-is m (slots-of m (now (sl .entry))) l stored) ⌝ }
+{
+    if logged < stored {
+        return false;
+    }
+    let k = stored as usize;
+    if m < k {
+        return false;
+    }
+    let a = 144 * k;
+    if !same_part(wl, 0, sl, 0, a) {
+        return false;
+    }
+    zero_from(sl, a)
 }
