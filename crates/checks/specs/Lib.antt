@@ -1,3 +1,5 @@
 pub mod Passes
 pub mod Laid
 pub mod Stored
+pub mod Desks
+pub mod Reserves

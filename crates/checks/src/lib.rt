@@ -2,22 +2,30 @@
 use bytes::get32;
 use bytes::is_zero;
 use bytes::same_part;
+use layout::Desk;
+use layout::Row;
+use map::count_used;
+use page::nth_page;
 use page::page_ok;
 ghost use mathlib.Core.Path.{_≡_};
 ghost use mathlib.Core.List.{List};
 ghost use Prim.Native.Nat.{_+_, _-_, _*_, _%_, _≤_, _<_};
 ghost use lib.ListN.{length, drop};
+ghost use Rattle.layout.specs.Desks.{same-row, same-rows, same-desk};
 ghost use Rattle.layout.specs.Numbers.{same-bytes, zeros};
 ghost use Rattle.layout.specs.PageBytes.{read-block};
 ghost use Rattle.layout.specs.Records.{Rec};
 ghost use Rattle.model.specs.Areas.{blocks-ok};
 ghost use Rattle.model.specs.Log.{log-area};
 ghost use Rattle.model.specs.Sound.{numbers-ok};
+ghost use Rattle.model.specs.TreeRules.{free-pages};
 ghost use Rattle.bytes.specs.Words.{part};
 ghost use Rattle.page.specs.Areas.{blocks-of, pages-of};
 ghost use Rattle.page.specs.Judged.{block-keeps};
 ghost use Rattle.slot.specs.Areas.{slots-of};
 ghost use Rattle.checks.specs.Stored.{stored-is};
+ghost use Rattle.checks.specs.Desks.{desk-with};
+ghost use Rattle.checks.specs.Reserves.{reserves-by, update-slots-by, update-pages-by, begin-slots-by};
 
 fn page_at_ok(pages: &[u8], n: usize, p: usize) -> bool
     requires { ⌜ (length (now pages) ≡ 128 * n) × (n ≤ 896) × (p < n) ⌝ }
@@ -84,4 +92,91 @@ pub fn stored_ok(wl: &[u8], sl: &[u8], m: usize, logged: u32, stored: u32) -> bo
         return false;
     }
     zero_from(sl, a)
+}
+
+fn same_row(x: Row, y: Row) -> bool
+    ensures { λ r. ⌜ r ≡ same-row x y ⌝ }
+{
+    if x.batch != y.batch {
+        return false;
+    }
+    if x.last != y.last {
+        return false;
+    }
+    if x.undo != y.undo {
+        return false;
+    }
+    x.pending == y.pending
+}
+
+fn same_rows(xs: [Row; 8], ys: [Row; 8]) -> bool
+    ensures { λ r. ⌜ r ≡ same-rows xs ys ⌝ }
+{
+    let mut i = 0;
+    while i < 8 {
+        if !same_row(xs[i], ys[i]) {
+            return false;
+        }
+        i += 1;
+    }
+    true
+}
+
+// The desk has these rows and this count of records, which are what the working log says.
+pub fn desk_is(d: Desk, rows: [Row; 8], logged: u32) -> bool
+    ensures { λ r. ⌜ r ≡ same-desk d (desk-with rows logged (d .stored)) ⌝ }
+{
+    let own = d.rows;
+    if !same_rows(own, rows) {
+        return false;
+    }
+    d.logged == logged
+}
+
+// "reserves mean u + 32p + 2b at most the slots and at least 7p free pages".
+pub fn reserves_ok(slots: usize, free: usize, used: usize, pending: usize, batches: usize) -> bool
+    requires { ⌜ (used ≤ 16384) × (pending ≤ 16384) × (batches ≤ 8) ⌝ }
+    ensures { λ r. ⌜ r ≡ reserves-by slots free used pending batches ⌝ }
+{
+    if slots < used + (32 * pending + 2 * batches) {
+        return false;
+    }
+    7 * pending <= free
+}
+
+// "An update needs u + 32 + 32(p + 1) + 2b at most the slots".
+pub fn update_has_slots(slots: usize, used: usize, pending: usize, batches: usize) -> bool
+    requires { ⌜ (used ≤ 16384) × (pending ≤ 16384) × (batches ≤ 8) ⌝ }
+    ensures { λ r. ⌜ r ≡ update-slots-by slots used pending batches ⌝ }
+{
+    used + 32 + (32 * (pending + 1) + 2 * batches) <= slots
+}
+
+// "and 7 + 7(p + 1) free pages".
+pub fn update_has_pages(free: usize, pending: usize) -> bool
+    requires { ⌜ pending ≤ 16384 ⌝ }
+    ensures { λ r. ⌜ r ≡ update-pages-by free pending ⌝ }
+{
+    7 + 7 * (pending + 1) <= free
+}
+
+// "Begin needs u + 1 + 32p + 2(b + 1) at most the slots."
+pub fn begin_has_slots(slots: usize, used: usize, pending: usize, batches: usize) -> bool
+    requires { ⌜ (used ≤ 16384) × (pending ≤ 16384) × (batches ≤ 8) ⌝ }
+    ensures { λ r. ⌜ r ≡ begin-slots-by slots used pending batches ⌝ }
+{
+    used + 1 + (32 * pending + 2 * (batches + 1)) <= slots
+}
+
+// The pages that the map does not mark; all of them if page 0 is not the map.
+pub fn free_pages(pages: &[u8], n: usize) -> usize
+    requires { ⌜ (length (now pages) ≡ 128 * n) × (n ≤ 896) ⌝ }
+    ensures { λ r. ⌜ (r ≡ free-pages (pages-of n (now (pages .entry)))) × (r ≤ n) ⌝ }
+{
+    let x = nth_page(pages, n, 0);
+    if x.kind < 3 {
+        return n;
+    }
+    let es = x.entries;
+    n - count_used(es, n)
 }
