@@ -1,5 +1,5 @@
 -- A pass over an area's pages, a turn at a time: the layout of each, and its log number.
-use mathlib.Core.Path.{_≡_, refl, _∙_}
+use mathlib.Core.Path.{_≡_, _∙_}
 use Prim.Native.Nat.{ℕ, _+_, _*_, _<_, _≤_}
 use native.Mathlib.Numerals.{add-one}
 use native.Mathlib.Omega.{arith}
@@ -10,19 +10,14 @@ use lib.Seq.{drop-cons}
 use Rattle.base.specs.Tests.{every, le-true, le-false}
 use Rattle.layout.specs.Numbers.{be32}
 use Rattle.layout.specs.Pages.{zero-page}
-use Rattle.layout.specs.PageBytes.{Block, page, other, page-size, page-fields, read-block}
-use Rattle.model.specs.Areas.{block-ok, blocks-ok}
+use Rattle.layout.specs.PageBytes.{page, page-size, page-fields, read-block}
+use Rattle.model.specs.Areas.{blocks-ok}
 use Rattle.model.specs.Sound.{numbers-ok}
 use Rattle.bytes.specs.Words.{part, be32-take, be32-drop}
 use Rattle.bytes.specs.Pieces.{read-all, read-all-length, read-all-at}
 use Rattle.page.specs.Judged.{block-keeps}
 use Rattle.page.specs.Areas.{blocks-of, pages-of}
-
--- What a page's test is called where it is coded.
-keeps-is : (n p : ℕ) (x : Block) → block-ok n p x ≡ block-keeps n p x
-unfolding block-ok block-keeps
-keeps-is n p (page x) = refl
-keeps-is n p (other b) = refl
+use Rattle.areas.specs.Bridge.{block-ok-is}
 
 -- The pages from p on are page p and those after it.
 from-page : {A : Type 0} (f : List ℕ → A) (d : A) (n p : ℕ) (b : List ℕ) → p < n
@@ -41,12 +36,12 @@ module _ (n p : ℕ) (b : List ℕ) {t : Bool} (e : t ≡ block-keeps n p (read-
   pub laid-out : t ≡ true → blocks-ok n p (drop p (blocks-of n b)) ≡ blocks-ok n (p + 1) (drop (p + 1) (blocks-of n b))
   unfolding blocks-ok
   laid-out k =
-      rw (from-page read-block (page zero-page) n p b h, blocks-ok, keeps-is n p (read-block (part b (page-size * p) page-size)), ← e, k, add-one p)
+      rw (from-page read-block (page zero-page) n p b h, blocks-ok, block-ok-is n p (read-block (part b (page-size * p) page-size)), ← e, k, add-one p)
 
   pub breaks : t ≡ false → blocks-ok n p (drop p (blocks-of n b)) ≡ false
   unfolding blocks-ok
   breaks k =
-      rw (from-page read-block (page zero-page) n p b h, blocks-ok, keeps-is n p (read-block (part b (page-size * p) page-size)), ← e, k)
+      rw (from-page read-block (page zero-page) n p b h, blocks-ok, block-ok-is n p (read-block (part b (page-size * p) page-size)), ← e, k)
 
 pub laid-none : (n p : ℕ) (b : List ℕ) → n ≤ p → blocks-ok n p (drop p (blocks-of n b)) ≡ true
 unfolding blocks-ok
