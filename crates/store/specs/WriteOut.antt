@@ -15,7 +15,8 @@ use Rattle.model.specs.OnBytes.{Lent, log-bytes, store-all-bytes}
 use Rattle.bytes.specs.Words.{part}
 use Rattle.lend.specs.Lent.{lent}
 use Rattle.area_laws.specs.Parts.{Wide, wide-append, wide-blank}
-use Rattle.area_laws.specs.Logs.{wide-slots, slots-length}
+use Rattle.area_laws.specs.Logs.{wide-slots}
+use Rattle.area_laws.specs.Typed.{slots-length}
 use Rattle.area_laws.specs.Stores.{with-log, stores-append}
 use Rattle.store.specs.Runs.{copied}
 use Rattle.store.specs.Cut.{take-both, slot-stores-length}
