@@ -431,7 +431,7 @@ fn change_map(r: Record, x: Page) -> Page
 }
 
 // Which of A, B, C and the map a kind changes, a bit each.
-fn parts(kind: u32) -> u32
+pub fn parts(kind: u32) -> u32
     ensures { λ r. ⌜ r ≡ mask (shape (kind-of kind)) ⌝ }
 {
     match kind {

@@ -1,18 +1,18 @@
 -- ANY RECORD, ANY PAGE: where a page's numbers fit their fields, and the record's are as narrow as its fields, what the record makes of the page fits too.
 use Prim.Native.Nat.{ℕ, suc, _-_, _≤_, _<_, _^_}
 use mathlib.Core.Path.{_≡_, refl, sym, ap, _∙_, subst}
-use mathlib.Core.Bool.{Bool, true, false}
+use mathlib.Core.Bool.{Bool, true, false, _&&_}
 use mathlib.Core.List.{List, []}
 use native.Mathlib.Omega.{arith}
 use native.Mathlib.Nat.{mod-lt}
 use lib.ListN.{length, take, set, length-set, length-take}
 use lib.Dec.{eqb, lit<}
-use Rattle.base.specs.Tests.{pick}
+use Rattle.base.specs.Tests.{pick, Case, yes!, no!, case, clash}
 use Rattle.layout.specs.declared.Entry.{Entry}
 use Rattle.layout.specs.Entries.{top, room, entry, entry-at}
 use Rattle.layout.specs.Pages.{PageKind, free, leaf, index, storage-map, Page, node-at, freed, map-bits}
 use Rattle.layout.specs.Records.{Rec, Kind, begin, insert, delete, undo-insert, undo-delete, commit, abort-mark, end, split, link, unlink, merge, redistribute, raise, lower}
-use Rattle.model.specs.Change.{with-lsn, entries-in, cut-to-size, Role, as-a, as-b, as-c, as-map, role, into-a, change-a, change-b, change-c, page-marked, takes, change, act}
+use Rattle.model.specs.Change.{with-lsn, entries-in, cut-to-size, Role, as-a, as-b, as-c, as-map, shape, role, into-a, change-a, change-b, change-c, page-marked, takes, change, act}
 use Rattle.model.specs.Change
 use Rattle.entries.specs.EntryBytes.{EntryFits}
 use Rattle.page.specs.Fields.{NodeFits, BodyFits, Fits}
@@ -22,10 +22,29 @@ use Rattle.width_laws.specs.Fine.{Fine, fine-at, at-fine, fine-insert, f
 
 -- ---- what is asked of the record
 
+-- The pages that become right links and own numbers: a split's B, a raise's B and C.
+unfoldable pub Links : Kind → Rec → Type 0
+Links begin r = Unit {0}
+Links insert r = Unit {0}
+Links delete r = Unit {0}
+Links undo-insert r = Unit {0}
+Links undo-delete r = Unit {0}
+Links commit r = Unit {0}
+Links abort-mark r = Unit {0}
+Links end r = Unit {0}
+Links split r = r .pageB < 1024
+Links link r = Unit {0}
+Links unlink r = Unit {0}
+Links merge r = Unit {0}
+Links redistribute r = Unit {0}
+Links raise r = (r .pageB < 1024) × (r .pageC < 1024)
+Links lower r = Unit {0}
+
 -- The numbers that a record puts into pages. (Its level and the number of its entries are cut to size.)
 pub record Narrow (r : Rec) : Type 0 where
-  pub pageB : r .pageB < 1024
-  pub pageC : r .pageC < 1024
+  pub pageB : r .pageB < 2 ^ 32
+  pub pageC : r .pageC < 2 ^ 32
+  pub links : Links (r .kind) r
   pub right : r .right < 1024
   pub key : r .key < 2 ^ 32
   pub second : r .second < 2 ^ 32
@@ -33,7 +52,53 @@ pub record Narrow (r : Rec) : Type 0 where
 
 -- A record that fits its slot is one.
 pub slot-narrow : (m : ℕ) (r : Rec) → RecordFits m r → Narrow r
-slot-narrow m r f = record { pageB = f .pageB; pageC = f .pageC; right = f .right; key = f .key; second = f .second; entry = f .entry }
+unfolding Links
+slot-narrow m r f =
+    record {
+      pageB = omega (arith, f .pageB);
+      pageC = omega (arith, f .pageC);
+      links = go (r .kind);
+      right = f .right;
+      key = f .key;
+      second = f .second;
+      entry = f .entry;
+    }
+  where
+    go : (k : Kind) → Links k r
+    go begin = tt
+    go insert = tt
+    go delete = tt
+    go undo-insert = tt
+    go undo-delete = tt
+    go commit = tt
+    go abort-mark = tt
+    go end = tt
+    go split = f .pageB
+    go link = tt
+    go unlink = tt
+    go merge = tt
+    go redistribute = tt
+    go raise = (f .pageB, f .pageC)
+    go lower = tt
+
+-- Only a raise changes C.
+as-c-raise : (k : Kind) (r : Rec) → shape k .c ≡ true → Links k r → (r .pageB < 1024) × (r .pageC < 1024)
+unfolding Links
+as-c-raise begin r e l = clash (sym e)
+as-c-raise insert r e l = clash (sym e)
+as-c-raise delete r e l = clash (sym e)
+as-c-raise undo-insert r e l = clash (sym e)
+as-c-raise undo-delete r e l = clash (sym e)
+as-c-raise commit r e l = clash (sym e)
+as-c-raise abort-mark r e l = clash (sym e)
+as-c-raise end r e l = clash (sym e)
+as-c-raise split r e l = clash (sym e)
+as-c-raise link r e l = clash (sym e)
+as-c-raise unlink r e l = clash (sym e)
+as-c-raise merge r e l = clash (sym e)
+as-c-raise redistribute r e l = clash (sym e)
+as-c-raise raise r e l = l
+as-c-raise lower r e l = clash (sym e)
 
 -- ---- what fits once a page is cut to size
 
@@ -60,6 +125,9 @@ fits-loose x h = let (e, m) = of-body (x .kind) (h .body) in record { right = h 
     of-body leaf b = (at-fine (x .entries) (b .entry), b .marks)
     of-body index b = (at-fine (x .entries) (b .entry), b .marks)
     of-body storage-map b = (subst Fine (sym (b .entries)) tt, b .marks)
+
+pub fits-fine : (x : Page) → Fits x → Fine (x .entries)
+fits-fine x h = fits-loose x h .entries
 
 loose-fits : (m : ℕ) (x : Page) → m < 2 ^ 32 → Loose x → Fits (with-lsn m (cut-to-size x))
 unfolding entries-in cut-to-size BodyFits
@@ -117,62 +185,76 @@ marks-set leaf m p t h = ap (λ z. set z p t) h
 marks-set index m p t h = ap (λ z. set z p t) h
 marks-set storage-map m p t h = length-set m p t ∙ h
 
-module _ (r : Rec) (f : Narrow r) where
-  small : (p : ℕ) → p < 1024 → p < 2 ^ 32
-  small p h = omega arith
+-- Without part C there is no such role.
+never : (a b c m : Bool) → c ≡ false → pick a as-a (pick b as-b (pick c as-c (pick m as-map Change.none))) ≡ as-c → ⊥
+never true b c m z e = let k : _≡_ {A = ℕ} 0 1 = cc in omega arith
+never false true c m z e = let k : _≡_ {A = ℕ} 0 1 = cc in omega arith
+never false false true m z e = let k : _≡_ {A = ℕ} 0 1 = cc in omega arith
+never false false false true z e = let k : _≡_ {A = ℕ} 0 1 = cc in omega arith
+never false false false false z e = let k : _≡_ {A = ℕ} 0 1 = cc in omega arith
 
+module _ (r : Rec) (f : Narrow r) where
   moved : Fine (r .entries)
   moved = at-fine (r .entries) (f .entry)
 
-  loose-a : (k : Kind) (x : Page) → Loose x → Loose (change-a k r x)
-  unfolding change-a Each
-  loose-a begin x h = h
-  loose-a insert x h = loose-entries _ x (fine-insert (r .key) (r .second) (x .entries) (f .key) (f .second) (h .entries)) h
-  loose-a delete x h = loose-entries _ x (fine-remove (r .key) (x .entries) (h .entries)) h
-  loose-a undo-insert x h = loose-entries _ x (fine-remove (r .key) (x .entries) (h .entries)) h
-  loose-a undo-delete x h = loose-entries _ x (fine-insert (r .key) (r .second) (x .entries) (f .key) (f .second) (h .entries)) h
-  loose-a commit x h = h
-  loose-a abort-mark x h = h
-  loose-a end x h = h
-  loose-a split x h = loose-chain _ _ _ x (f .pageB) (f .key) (each-take EntryFits (length (x .entries) - length (r .entries)) (x .entries) (h .entries)) h
-  loose-a link x h =
+  loose-a : (k : Kind) → Links k r → (x : Page) → Loose x → Loose (change-a k r x)
+  unfolding change-a Each Links
+  loose-a begin l x h = h
+  loose-a insert l x h = loose-entries _ x (fine-insert (r .key) (r .second) (x .entries) (f .key) (f .second) (h .entries)) h
+  loose-a delete l x h = loose-entries _ x (fine-remove (r .key) (x .entries) (h .entries)) h
+  loose-a undo-insert l x h = loose-entries _ x (fine-remove (r .key) (x .entries) (h .entries)) h
+  loose-a undo-delete l x h = loose-entries _ x (fine-insert (r .key) (r .second) (x .entries) (f .key) (f .second) (h .entries)) h
+  loose-a commit l x h = h
+  loose-a abort-mark l x h = h
+  loose-a end l x h = h
+  loose-a split l x h = loose-chain _ _ _ x l (f .key) (each-take EntryFits (length (x .entries) - length (r .entries)) (x .entries) (h .entries)) h
+  loose-a link l x h =
       loose-entries _ x
-      (fine-link (r .pageB) (r .key) (r .pageC) (r .second) (x .entries) (f .key, small (r .pageB) (f .pageB)) (f .second, small (r .pageC) (f .pageC)) (h .entries)) h
-  loose-a unlink x h = loose-entries _ x (fine-unlink (r .pageB) (r .key) (r .second) (x .entries) (f .second, small (r .pageB) (f .pageB)) (h .entries)) h
-  loose-a merge x h = loose-chain _ _ _ x (f .right) (f .key) (each-append EntryFits (x .entries) (r .entries) (h .entries) moved) h
-  loose-a redistribute x h = loose-chain _ _ _ x (h .right) (f .key) (fine-share-a (into-a r) r (x .entries) moved (h .entries)) h
-  loose-a raise x h =
+      (fine-link (r .pageB) (r .key) (r .pageC) (r .second) (x .entries) (f .key, f .pageB) (f .second, f .pageC) (h .entries)) h
+  loose-a unlink l x h = loose-entries _ x (fine-unlink (r .pageB) (r .key) (r .second) (x .entries) (f .second, f .pageB) (h .entries)) h
+  loose-a merge l x h = loose-chain _ _ _ x (f .right) (f .key) (each-append EntryFits (x .entries) (r .entries) (h .entries) moved) h
+  loose-a redistribute l x h = loose-chain _ _ _ x (h .right) (f .key) (fine-share-a (into-a r) r (x .entries) moved (h .entries)) h
+  loose-a raise l x h =
       loose-node (x .own) (suc (r .level)) 0 top _ (h .own) (lit< tt) (lit< tt)
-      ((f .key, small (r .pageC) (f .pageC)), ((lit< tt, small (r .pageB) (f .pageB)), tt))
-  loose-a lower x h = loose-node (x .own) (r .level) 0 (x .high) (r .entries) (h .own) (lit< tt) (h .high) moved
+      ((f .key, f .pageC), ((lit< tt, f .pageB), tt))
+  loose-a lower l x h = loose-node (x .own) (r .level) 0 (x .high) (r .entries) (h .own) (lit< tt) (h .high) moved
 
-  loose-b : (k : Kind) (x : Page) → Loose x → Loose (change-b k r x)
-  unfolding change-b
-  loose-b begin x h = h
-  loose-b insert x h = h
-  loose-b delete x h = h
-  loose-b undo-insert x h = h
-  loose-b undo-delete x h = h
-  loose-b commit x h = h
-  loose-b abort-mark x h = h
-  loose-b end x h = h
-  loose-b split x h = loose-node (r .pageB) (r .level) (r .right) (r .second) (r .entries) (f .pageB) (f .right) (f .second) moved
-  loose-b link x h = h
-  loose-b unlink x h = h
-  loose-b merge x h = loose-freed (x .own) (h .own)
-  loose-b redistribute x h = loose-entries _ x (fine-share-b (into-a r) r (x .entries) moved (h .entries)) h
-  loose-b raise x h = h
-  loose-b lower x h = loose-freed (x .own) (h .own)
+  loose-b : (k : Kind) → Links k r → (x : Page) → Loose x → Loose (change-b k r x)
+  unfolding change-b Links
+  loose-b begin l x h = h
+  loose-b insert l x h = h
+  loose-b delete l x h = h
+  loose-b undo-insert l x h = h
+  loose-b undo-delete l x h = h
+  loose-b commit l x h = h
+  loose-b abort-mark l x h = h
+  loose-b end l x h = h
+  loose-b split l x h = loose-node (r .pageB) (r .level) (r .right) (r .second) (r .entries) l (f .right) (f .second) moved
+  loose-b link l x h = h
+  loose-b unlink l x h = h
+  loose-b merge l x h = loose-freed (x .own) (h .own)
+  loose-b redistribute l x h = loose-entries _ x (fine-share-b (into-a r) r (x .entries) moved (h .entries)) h
+  loose-b raise l x h = h
+  loose-b lower l x h = loose-freed (x .own) (h .own)
 
-  loose-change : (o : Role) (x : Page) → Loose x → Loose (change r o x)
+  loose-change : (o : Role) → (o ≡ as-c → (r .pageB < 1024) × (r .pageC < 1024)) → (x : Page) → Loose x → Loose (change r o x)
   unfolding change change-c
-  loose-change Change.none x h = h
-  loose-change as-a x h = loose-a (r .kind) x h
-  loose-change as-b x h = loose-b (r .kind) x h
-  loose-change as-c x h = loose-node (r .pageC) (r .level) (r .pageB) (r .key) (r .entries) (f .pageC) (f .pageB) (f .key) moved
-  loose-change as-map x h =
+  loose-change Change.none c x h = h
+  loose-change as-a c x h = loose-a (r .kind) (f .links) x h
+  loose-change as-b c x h = loose-b (r .kind) (f .links) x h
+  loose-change as-c c x h = loose-node (r .pageC) (r .level) (r .pageB) (r .key) (r .entries) (c refl .1) (c refl .0) (f .key) moved
+  loose-change as-map c x h =
       record { right = h .right; high = h .high; own = h .own; entries = h .entries; marks = marks-set (x .kind) (x .marks) (page-marked r) (takes (r .kind)) (h .marks) }
+
+  -- A page has part C only of a kind that changes C.
+  c-part : (p : ℕ) → role r p ≡ as-c → (r .pageB < 1024) × (r .pageC < 1024)
+  unfolding role
+  c-part p e = go (case (shape (r .kind) .c)) e
+    where
+      go : Case (shape (r .kind) .c) → role r p ≡ as-c → (r .pageB < 1024) × (r .pageC < 1024)
+      go (yes! t) w = as-c-raise (r .kind) r t (f .links)
+      go (no! t) w = absurd (never (shape (r .kind) .a && eqb p (r .pageA)) (shape (r .kind) .b && eqb p (r .pageB)) (shape (r .kind) .c && eqb p (r .pageC)) (shape (r .kind) .m && eqb p 0) (rw t) w)
 
 -- WHAT A RECORD MAKES OF A PAGE fits its fields, whatever the page's kind and part.
 pub act-fits : (p n : ℕ) (r : Rec) (x : Page) → n < 2 ^ 32 → Narrow r → Fits x → Fits (act p n r x)
-act-fits p n r x l f h = loose-fits n (change r (role r p) x) l (loose-change r f (role r p) x (fits-loose x h))
+act-fits p n r x l f h = loose-fits n (change r (role r p) x) l (loose-change r f (role r p) (c-part r f p) x (fits-loose x h))

@@ -1,3 +1,4 @@
 pub mod Each
 pub mod Fine
 pub mod Acting
+pub mod Rows

@@ -1,0 +1,115 @@
+// A run of updates over the lent working areas: one record after another is logged and applied.
+use change::Record;
+use map::highest_free;
+use redo::page_at;
+use redo::redo_record;
+use slot::Header;
+use slot::Slot;
+use slot::write_at;
+ghost use mathlib.Core.Path.{_≡_};
+ghost use mathlib.Core.List.{List};
+ghost use Prim.Native.Nat.{ℕ, suc, _*_, _≤_, _<_};
+ghost use lib.ListN.{length};
+ghost use Rattle.layout.specs.Pages.{Page};
+ghost use Rattle.layout.specs.Records.{Rec};
+ghost use Rattle.layout.specs.RecordBytes.{record-bytes};
+ghost use Rattle.model.specs.Update as model;
+ghost use Rattle.bytes.specs.Patch.{patch};
+ghost use Rattle.change.specs.Pages.{rec};
+ghost use Rattle.redo.specs.Pages.{Pages};
+ghost use Rattle.run.specs.Shows.{Shows, Keeping};
+
+// Where a run stands: the last record's number, and why it stopped (0: it goes on; else 17 or 18).
+pub struct Run {
+    pub logged: u32,
+    pub stop: u32,
+}
+
+// The record after the first i goes into its slot.
+fn write_record(log: &mut [u8], i: u32, r: Record)
+    requires { ⌜ (i < 16384) × (144 * suc i ≤ length (now log)) ⌝ }
+    ensures { λ _. ⌜ now (log .exit) ≡ patch (now (log .entry)) (144 * i) (record-bytes (suc i) (rec r)) ⌝ }
+{
+    let header = Header::Full {
+        kind: r.kind,
+        count: r.count,
+        level: r.level,
+        own: i + 1,
+        batch: r.batch,
+        previous: r.previous,
+        a: r.a,
+        b: r.b,
+        c: r.c,
+        key: r.key,
+        second: r.second,
+        right: r.right,
+    };
+    let entries = r.entries;
+    write_at(log, 144 * i as usize, Slot { header, entries });
+}
+
+// One record is logged and applied, if there is a slot for it.
+pub fn emit(wp: &mut [u8], wl: &mut [u8], n: usize, m: usize, t: Run, r: Record) -> Run
+    requires { ⌜ (length (now wp) ≡ 128 * n) × (n ≤ 896) × (length (now wl) ≡ 144 * m) × (m ≤ 16384) × (r .count ≤ 14) ⌝ }
+    ensures { λ u. ⌜ ((s : model.Run) → Shows n m (now (wp .entry)) (now (wl .entry)) t s → Keeping m t (rec r) → Shows n m (now (wp .exit)) (now (wl .exit)) u (model.emit (rec r) s)) ⌝ }
+{
+    if t.stop != 0 {
+        return t;
+    }
+    if t.logged as usize >= m {
+        return Run {
+            logged: t.logged,
+            stop: 17,
+        };
+    }
+    let k = t.logged + 1;
+    write_record(wl, t.logged, r);
+    redo_record(wp, n, r, k);
+    Run { logged: k, stop: 0 }
+}
+
+// The page taken, of n: the free one with the highest number, or 0 if there is none.
+pub fn fresh(wp: &[u8], n: usize) -> u32
+    requires { ⌜ (length (now wp) ≡ 128 * n) × (n ≤ 896) ⌝ }
+    ensures { λ b. ⌜ (b < 1024) × ((xs : List Page) (near : ℕ) → Pages n (now (wp .entry)) xs → b ≡ model.fresh xs near) ⌝ }
+{
+    let x = page_at(wp, n, 0);
+    if x.kind < 3 {
+        return 0;
+    }
+    let es = x.entries;
+    highest_free(es, n) as u32
+}
+
+// A record that takes page b, where b is the page taken: the slot is asked for first.
+pub fn emit_taking(
+    wp: &mut [u8],
+    wl: &mut [u8],
+    n: usize,
+    m: usize,
+    t: Run,
+    r: Record,
+    b: u32,
+) -> Run
+    requires { ⌜ (length (now wp) ≡ 128 * n) × (n ≤ 896) × (length (now wl) ≡ 144 * m) × (m ≤ 16384) × (r .count ≤ 14) ⌝ }
+    ensures { λ u.
+        ⌜ ((s : model.Run) (f : ℕ → Rec) (near : ℕ) → Shows n m (now (wp .entry)) (now (wl .entry)) t s → Keeping m t (rec r) → b ≡ model.fresh (s .pages) near → f b ≡ rec r
+        → Shows n m (now (wp .exit)) (now (wl .exit)) u (model.emit-taking f near s)) ⌝ }
+{
+    if b != 0 {
+        return emit(wp, wl, n, m, t, r);
+    }
+    if t.stop != 0 {
+        return t;
+    }
+    if t.logged as usize >= m {
+        return Run {
+            logged: t.logged,
+            stop: 17,
+        };
+    }
+    Run {
+        logged: t.logged,
+        stop: 18,
+    }
+}
