@@ -1,3 +1,5 @@
 pub mod Same
 pub mod Opened
 pub mod Places
+pub mod Said
+pub mod After

@@ -73,10 +73,13 @@ place-empty b zero n = refl
 place-empty b (suc k) n = let m : 0 ≢ b = λ e. n (sym e) in rw (neq-false m) (ap suc (place-empty b k n))
 
 -- Among the eight a row in use is where it is among those in use.
+pub place-is-in-use : (b : ℕ) (us : List Row) → length us ≤ 8 → place-of b us < length us → place-of b (eight-rows us) ≡ place-of b us
+place-is-in-use b us l q = ap (place-of b) (eight-rows-are us l) ∙ place-first b us (replicate (8 - length us) no-row) q
+
 pub place-in-use : (b : ℕ) (us : List Row) → length us ≤ 8 → b ≢ 0 → place-of b (eight-rows us) < 8 → (place-of b us < length us) × (place-of b (eight-rows us) ≡ place-of b us)
 place-in-use b us l n h =
     elim (decLt (place-of b us) (length us)) [
-      | yes q ↦ (q, ap (place-of b) (eight-rows-are us l) ∙ place-first b us (replicate (8 - length us) no-row) q)
+      | yes q ↦ (q, place-is-in-use b us l q)
       | no q ↦
           let e : place-of b (eight-rows us) ≡ length us + place-of b (replicate (8 - length us) no-row) = ap (place-of b) (eight-rows-are us l) ∙ place-later b us (replicate (8 - length us) no-row) (omega arith) in
           let z = place-empty b (8 - length us) n in
@@ -86,7 +89,7 @@ place-in-use b us l n h =
 pub place-not-in-use : (b : ℕ) (us : List Row) → length us ≤ 8 → 8 ≤ place-of b (eight-rows us) → length us ≤ place-of b us
 place-not-in-use b us l h =
     elim (decLt (place-of b us) (length us)) [
-      | yes q ↦ let e : place-of b (eight-rows us) ≡ place-of b us = ap (place-of b) (eight-rows-are us l) ∙ place-first b us (replicate (8 - length us) no-row) q in absurd (omega arith)
+      | yes q ↦ let e = place-is-in-use b us l q in absurd (omega arith)
       | no q ↦ omega arith
     ]
 
