@@ -47,6 +47,10 @@ open-last log after body r q e =
     let n : suc (length (log ++ body)) ≡ length after = sym (ap length f ∙ length-append (log ++ body) (r ∷ []) ∙ omega arith) in
     ap open-batches f ∙ open-more (log ++ body) r ∙ ap₂ (λ m bs. tell (r .kind) m r bs) n (open-structural log body q)
 
+-- The row of batch b, among these, once its update number n is logged.
+abbrev pub updated-row : List Row → ℕ → ℕ → Row
+updated-row rows b n = record { batch = b; last = n; undo = n; pending = suc (row-at rows (place-of b rows) .pending) }
+
 module _ (log : List Rec) (d : Desk) (chain : chain-ok 1 log [] ≡ true) (said : d ≡ desk-of log (d .stored)) where
   -- ---- begin: a row more
 
@@ -83,13 +87,9 @@ module _ (log : List Rec) (d : Desk) (chain : chain-ok 1 log [] ≡ true) (said 
       ∙ eight-rows-set us (place-of b us) (row-of (f (batch-at bs (place-of b us)))) (omega arith) (said-few log d chain said)
       ∙ (λ i. set (was i) (at i) (row-of (f (batch-at bs (at i)))))
 
-  -- The row of batch b once its update number n is logged.
-  abbrev pub more-pending : ℕ → ℕ → Row
-  more-pending b n = record { batch = b; last = n; undo = n; pending = suc (row-at (d .rows) (place-of b (d .rows)) .pending) }
-
   wrote-desk : (after : List Rec) (b n stored : ℕ) (l : Line) → b ≢ 0 → place-of b (d .rows) < 8 → n ≡ length after → l .number ≡ length after
       → open-batches after ≡ change-batch b (written (length after) l) (open-batches log)
-      → desk-of after stored ≡ record { rows = set (d .rows) (place-of b (d .rows)) (more-pending b n); logged = n; stored = stored }
+      → desk-of after stored ≡ record { rows = set (d .rows) (place-of b (d .rows)) (updated-row (d .rows) b n); logged = n; stored = stored }
   unfolding desk-of row-of written next-undo
   wrote-desk after b n stored l nz h en el o =
       let i = place-of b (d .rows) in
@@ -105,14 +105,14 @@ module _ (log : List Rec) (d : Desk) (chain : chain-ok 1 log [] ≡ true) (said 
   -- Records of the tree, and then an update's own.
   pub desk-inserted : (after body : List Rec) (b previous a k v n stored : ℕ) → b ≢ 0 → place-of b (d .rows) < 8 → AllStructural body
       → after ≡ log ++ (body ++ data-row insert b previous a k v ∷ []) → n ≡ length after
-      → desk-of after stored ≡ record { rows = set (d .rows) (place-of b (d .rows)) (more-pending b n); logged = n; stored = stored }
+      → desk-of after stored ≡ record { rows = set (d .rows) (place-of b (d .rows)) (updated-row (d .rows) b n); logged = n; stored = stored }
   unfolding tell
   desk-inserted after body b previous a k v n stored nz h q e en =
       wrote-desk after b n stored (record { number = length after; adds = true; key = k; value = v }) nz h en refl (open-last log after body (data-row insert b previous a k v) q e)
 
   pub desk-deleted : (after body : List Rec) (b previous a k v n stored : ℕ) → b ≢ 0 → place-of b (d .rows) < 8 → AllStructural body
       → after ≡ log ++ (body ++ data-row delete b previous a k v ∷ []) → n ≡ length after
-      → desk-of after stored ≡ record { rows = set (d .rows) (place-of b (d .rows)) (more-pending b n); logged = n; stored = stored }
+      → desk-of after stored ≡ record { rows = set (d .rows) (place-of b (d .rows)) (updated-row (d .rows) b n); logged = n; stored = stored }
   unfolding tell
   desk-deleted after body b previous a k v n stored nz h q e en =
       wrote-desk after b n stored (record { number = length after; adds = false; key = k; value = v }) nz h en refl (open-last log after body (data-row delete b previous a k v) q e)

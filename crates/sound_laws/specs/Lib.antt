@@ -1,6 +1,5 @@
 pub mod FromSound
 pub mod ToSound
-pub mod Counting
 pub mod StoredPart
 pub mod AbortRoom
 pub mod SoundAfter

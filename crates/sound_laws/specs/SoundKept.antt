@@ -43,11 +43,11 @@ use Rattle.history_laws.specs.Trail.{Trail, trail-core, trail-longer}
 use Rattle.history_laws.specs.Updating.{Updated, put-updated, remove-updated}
 use Rattle.history_laws.specs.BatchData.{insert-data, delete-data}
 use Rattle.history_laws.specs.Undoing.{abort-trail}
+use Rattle.desk_laws.specs.Counting.{change-pending, change-count, drop-pending, more-pending}
 use Rattle.call_laws.specs.Checks.{none-broken, kept-check, sound-parts, live-batch, absent-of, present-of, found-open}
 use Rattle.call_laws.specs.Passing.{emit-room}
 use Rattle.call_laws.specs.Refused.{asks-sound}
 use Rattle.sound_laws.specs.FromSound.{sound-core}
-use Rattle.sound_laws.specs.Counting.{change-pending, change-count, drop-pending, more-pending}
 use Rattle.sound_laws.specs.AbortRoom.{Spent, begin-pages, commit-pages, abort-spent}
 use Rattle.sound_laws.specs.SoundAfter.{Reserved, reserved, used-within, kept-sound, stored-sound, page-after}
 

@@ -8,9 +8,7 @@ use lib.ListN.{length, length-map, replicate}
 use lib.Dec.{leb, eqb}
 use Rattle.base.specs.Tests.{and-both, eq-true, every}
 use Rattle.layout.specs.declared.Entry.{Entry}
-use Rattle.layout.specs.declared.Row.{Row}
-use Rattle.layout.specs.declared.Desk.{Desk}
-use Rattle.layout.specs.Desks.{same-row, same-rows, same-desk}
+use Rattle.layout.specs.Desks.{same-desk}
 use Rattle.layout.specs.Pages.{Page, at, layout, map-bits}
 use Rattle.layout.specs.PageBytes.{page}
 use Rattle.layout.specs.Records.{Rec}
@@ -28,6 +26,7 @@ use Rattle.page_laws.specs.Layout.{Laid}
 use Rattle.page_laws.specs.Restartable.{laid-blocks, empty-slots}
 use Rattle.ledger_laws.specs.PendingRule.{settles-pending}
 use Rattle.history_laws.specs.Core.{Core, RowsOk, NamesOk}
+use Rattle.desk_laws.specs.Same.{desk-self}
 use Rattle.area_laws.specs.Typed.{pages-back, log-back, log-area-length}
 use Rattle.history_laws.specs.Redoing.{numbers-true}
 
@@ -37,21 +36,6 @@ rows-slots : (n m k : ℕ) (log : List Rec) → RowsOk m log → NamesOk n log �
 unfolding slots-ok slots-from RowsOk NamesOk
 rows-slots n m k [] r s = empty-slots n m k
 rows-slots n m k (x ∷ log) r s = and-both (eq-true m m refl) (and-both (r .0) (and-both (s .0) (rows-slots n (suc m) k log (r .1) (s .1))))
-
--- ---- desks
-
-row-same : (x : Row) → same-row x x ≡ true
-unfolding same-row
-row-same x = and-both (eq-true (x .batch) (x .batch) refl) (and-both (eq-true (x .last) (x .last) refl) (and-both (eq-true (x .undo) (x .undo) refl) (eq-true (x .pending) (x .pending) refl)))
-
-rows-same : (xs : List Row) → same-rows xs xs ≡ true
-unfolding same-rows
-rows-same [] = refl
-rows-same (x ∷ xs) = and-both (row-same x) (rows-same xs)
-
-pub desk-same : (d : Desk) → same-desk d d ≡ true
-unfolding same-desk
-desk-same d = and-both (rows-same (d .rows)) (and-both (eq-true (d .logged) (d .logged) refl) (eq-true (d .stored) (d .stored) refl))
 
 -- ---- the parts
 
@@ -99,5 +83,5 @@ module _ (n : ℕ) (most : n ≤ map-bits) (t : Run) (sl : List Entry) (c : Core
       (and-both side-log
       (and-both (subst (λ z. tree-ok z ≡ true) (sym run-pages) (c .tree))
       (and-both ((λ i. pending-ok (run-pages i) (open-batches (run-log i))) ∙ pending)
-      (and-both (subst (λ z. same-desk (desk-of (t .log) stored) (desk-of z stored) ≡ true) (sym run-log) (desk-same (desk-of (t .log) stored)))
+      (and-both (subst (λ z. same-desk (desk-of (t .log) stored) (desk-of z stored) ≡ true) (sym run-log) (desk-self (desk-of (t .log) stored)))
       (and-both st ((λ i. reserves-ok (slots-count i) (run-pages i) (run-log i) (open-batches (run-log i))) ∙ rs))))))
