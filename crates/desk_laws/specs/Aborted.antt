@@ -1,10 +1,10 @@
 -- The open batches after an abort that did not stop: the batch is gone, and the others are as they were.
 use Prim.Native.Nat.{ℕ, suc}
-use mathlib.Core.Path.{_≡_, refl, sym, ap, _∙_}
+use mathlib.Core.Path.{_≡_, refl, ap, _∙_}
 use mathlib.Core.Bool.{Bool, true, false}
-use mathlib.Core.List.{List, [], _∷_, _++_}
+use mathlib.Core.List.{List, [], _∷_}
 use lib.ListN.{length}
-use Rattle.layout.specs.Records.{Rec, undo-insert, undo-delete, abort-mark, end, batch-row, data-row}
+use Rattle.layout.specs.Records.{Rec, undo-insert, undo-delete, abort-mark, batch-row, data-row}
 use Rattle.model.specs.Update.{Run, emit}
 use Rattle.model.specs.Batches.{Line, Batch, change-batch, drop-batch, next-undo, undone, mark-set, tell, open-batches}
 use Rattle.model.specs.Undo.{undo-by, undo-line, undo-lines, end-batch, abort-run}

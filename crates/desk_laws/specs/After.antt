@@ -1,25 +1,25 @@
 -- The desk after a call's records: a row more, a row changed, or a row gone with the rest closing up.
-use Prim.Native.Nat.{ℕ, zero, suc, _+_, _≤_, _<_}
+use Prim.Native.Nat.{ℕ, suc, _≤_, _<_}
 use mathlib.Core.Path.{_≡_, refl, sym, ap, ap₂, _∙_, subst}
 use mathlib.Core.Logic.{_≢_}
-use mathlib.Core.Bool.{Bool, true, false}
-use mathlib.Core.List.{List, [], _∷_, _++_, map, map-append, append-assoc, append-nil}
+use mathlib.Core.Bool.{true, false}
+use mathlib.Core.List.{List, [], _∷_, _++_, append-assoc, append-nil}
 use native.Mathlib.Omega.{arith}
-use native.Mathlib.Nat.{suc-add, add-suc}
-use lib.ListN.{length, set, take, drop, length-append, length-map}
+use lib.ListN.{length, set, replicate, length-append}
 use Rattle.layout.specs.declared.Row.{Row}
 use Rattle.layout.specs.declared.Desk.{Desk}
-use Rattle.layout.specs.Desks.{row-at, eight-rows}
+use Rattle.layout.specs.Numbers.{tab}
+use Rattle.layout.specs.Desks.{no-row, row-at, eight-rows}
 use Rattle.layout.specs.Records.{Rec, Kind, begin, insert, delete, commit, split, link, unlink, merge, redistribute, raise, lower, batch-row, data-row}
-use Rattle.model.specs.Batches.{Line, Batch, next-undo, change-batch, drop-batch, written, tell, told, open-batches, chain-ok, row-of, desk-of}
+use Rattle.model.specs.Batches.{Line, Batch, next-undo, change-batch, drop-batch, written, tell, open-batches, chain-ok, row-of, desk-of}
 use Rattle.update_laws.specs.Keeps.{Structural, splitting, linking, unlinking, merging, sharing, raising, lowering}
 use Rattle.update_laws.specs.Wrote.{AllStructural}
 use Rattle.ledger_laws.specs.Batching.{find-number}
 use Rattle.ledger_laws.specs.Telling.{open-more}
-use Rattle.desk.specs.Rows.{place-of, new-row, without, eight-rows-set, eight-rows-add, eight-rows-without}
-use Rattle.desk_laws.specs.Opened.{batch-at}
-use Rattle.desk_laws.specs.Places.{change-there, drop-there}
-use Rattle.desk_laws.specs.Said.{said-rows, said-few, said-row, said-used, said-place, said-found}
+use Rattle.desk.specs.Rows.{place-of, new-row, without}
+use Rattle.desk_laws.specs.Opened.{batch-at, open-few}
+use Rattle.desk_laws.specs.Rows.{rows-of, rows-added, rows-changed, rows-dropped}
+use Rattle.desk_laws.specs.Said.{said-rows, said-row, said-used, said-found}
 
 -- ---- records of the tree say nothing of batches
 
@@ -47,60 +47,61 @@ open-last log after body r q e =
     let n : suc (length (log ++ body)) ≡ length after = sym (ap length f ∙ length-append (log ++ body) (r ∷ []) ∙ omega arith) in
     ap open-batches f ∙ open-more (log ++ body) r ∙ ap₂ (λ m bs. tell (r .kind) m r bs) n (open-structural log body q)
 
+-- The desk of a log by its rows; with no batch open they are all empty.
+desk-by : (after : List Rec) (rows : List Row) (n stored : ℕ) → rows-of (open-batches after) ≡ rows → n ≡ length after → desk-of after stored ≡ record { rows = rows; logged = n; stored = stored }
+unfolding desk-of
+desk-by after rows n stored e en = let sn = sym en in λ i. record { rows = e i; logged = sn i; stored = stored }
+
+pub desk-none-open : (after : List Rec) (n stored : ℕ) → open-batches after ≡ [] → n ≡ length after → desk-of after stored ≡ record { rows = replicate 8 no-row; logged = n; stored = stored }
+unfolding eight-rows tab
+desk-none-open after n stored o en = desk-by after (replicate 8 no-row) n stored (ap rows-of o) en
+
 -- The row of batch b, among these, once its update number n is logged.
 abbrev pub updated-row : List Row → ℕ → ℕ → Row
 updated-row rows b n = record { batch = b; last = n; undo = n; pending = suc (row-at rows (place-of b rows) .pending) }
 
 module _ (log : List Rec) (d : Desk) (chain : chain-ok 1 log [] ≡ true) (said : d ≡ desk-of log (d .stored)) where
+  few : length (open-batches log) ≤ 8
+  few = open-few log chain
+
+  was : rows-of (open-batches log) ≡ d .rows
+  was = said-rows log d chain said
+
   -- ---- begin: a row more
 
   pub desk-begun : (after : List Rec) (n previous stored : ℕ) → place-of 0 (d .rows) < 8 → n ≡ suc (length log) → after ≡ log ++ batch-row begin n previous ∷ []
       → desk-of after stored ≡ record { rows = set (d .rows) (place-of 0 (d .rows)) (new-row n); logged = n; stored = stored }
-  unfolding desk-of tell row-of next-undo
+  unfolding tell row-of next-undo
   desk-begun after n previous stored h en e =
-      let bs = open-batches log in
-      let us = map row-of bs in
       let x : Batch = record { number = suc (length log); last = suc (length log); marked = false; lines = [] } in
-      let o : open-batches after ≡ bs ++ x ∷ [] = ap open-batches e ∙ open-more log (batch-row begin n previous) in
-      let l : length us ≡ place-of 0 (d .rows) = length-map bs row-of ∙ sym (said-used log d chain said) in
-      let was = sym (said-rows log d chain said) in
+      let o : open-batches after ≡ open-batches log ++ x ∷ [] = ap open-batches e ∙ open-more log (batch-row begin n previous) in
+      let l : length (open-batches log) ≡ place-of 0 (d .rows) = sym (said-used log d chain said) in
       let sn = sym en in
-      let rows : eight-rows (map row-of (open-batches after)) ≡ set (d .rows) (place-of 0 (d .rows)) (new-row n) =
-      ap (λ (z : List Batch). eight-rows (map row-of z)) o ∙ ap eight-rows (map-append row-of bs (x ∷ []))
-      ∙ eight-rows-add us (row-of x) (omega arith)
-      ∙ (λ i. set (was i) (l i) (new-row (sn i))) in
-      let k : length after ≡ n = ap length e ∙ length-append log (batch-row begin n previous ∷ []) ∙ omega arith in
-      λ i. record { rows = rows i; logged = k i; stored = stored }
+      desk-by after (set (d .rows) (place-of 0 (d .rows)) (new-row n)) n stored
+      (ap rows-of o ∙ rows-added (open-batches log) x (omega arith) ∙ (λ i. set (was i) (l i) (new-row (sn i))))
+      (sym (ap length e ∙ length-append log (batch-row begin n previous ∷ []) ∙ omega arith))
 
-  -- ---- a row changed
+  -- ---- an update: its batch's row changed
 
-  changed-rows : (after : List Rec) (b : ℕ) (f : Batch → Batch) → b ≢ 0 → place-of b (d .rows) < 8 → open-batches after ≡ change-batch b f (open-batches log)
-      → eight-rows (map row-of (open-batches after)) ≡ set (d .rows) (place-of b (d .rows)) (row-of (f (batch-at (open-batches log) (place-of b (d .rows)))))
-  changed-rows after b f n h o =
-      let bs = open-batches log in
-      let us = map row-of bs in
-      let (e, q) = said-place log d chain said b n h in
-      let l = length-map bs row-of in
-      let was = sym (said-rows log d chain said) in
-      let at = sym e in
-      ap (λ (z : List Batch). eight-rows (map row-of z)) o ∙ ap eight-rows (change-there b f bs q)
-      ∙ eight-rows-set us (place-of b us) (row-of (f (batch-at bs (place-of b us)))) (omega arith) (said-few log d chain said)
-      ∙ (λ i. set (was i) (at i) (row-of (f (batch-at bs (at i)))))
+  changed-rows : (b : ℕ) (f : Batch → Batch) → b ≢ 0 → place-of b (d .rows) < 8
+      → rows-of (change-batch b f (open-batches log)) ≡ set (d .rows) (place-of b (d .rows)) (row-of (f (batch-at (open-batches log) (place-of b (d .rows)))))
+  changed-rows b f =
+      subst (λ (rs : List Row). b ≢ 0 → place-of b rs < 8 → rows-of (change-batch b f (open-batches log)) ≡ set rs (place-of b rs) (row-of (f (batch-at (open-batches log) (place-of b rs))))) was
+      (rows-changed (open-batches log) few b f)
 
   wrote-desk : (after : List Rec) (b n stored : ℕ) (l : Line) → b ≢ 0 → place-of b (d .rows) < 8 → n ≡ length after → l .number ≡ length after
       → open-batches after ≡ change-batch b (written (length after) l) (open-batches log)
       → desk-of after stored ≡ record { rows = set (d .rows) (place-of b (d .rows)) (updated-row (d .rows) b n); logged = n; stored = stored }
-  unfolding desk-of row-of written next-undo
+  unfolding row-of written next-undo
   wrote-desk after b n stored l nz h en el o =
       let i = place-of b (d .rows) in
       let x = batch-at (open-batches log) i in
-      let rows = changed-rows after b (written (length after) l) nz h o in
       let num : x .number ≡ b = sym (find-number b (open-batches log) x (said-found log d chain said b nz h)) in
       let pend : length (x .lines) ≡ row-at (d .rows) i .pending = ap (λ (r : Row). r .pending) (sym (said-row log d chain said i)) in
       let sn = sym en in
       let un = el ∙ sn in
-      let whole = rows ∙ (λ j. set (d .rows) i (record { batch = num j; last = sn j; undo = un j; pending = suc (pend j) })) in
-      λ j. record { rows = whole j; logged = sn j; stored = stored }
+      desk-by after (set (d .rows) i (updated-row (d .rows) b n)) n stored
+      (ap rows-of o ∙ changed-rows b (written (length after) l) nz h ∙ (λ j. set (d .rows) i (record { batch = num j; last = sn j; undo = un j; pending = suc (pend j) }))) en
 
   -- Records of the tree, and then an update's own.
   pub desk-inserted : (after body : List Rec) (b previous a k v n stored : ℕ) → b ≢ 0 → place-of b (d .rows) < 8 → AllStructural body
@@ -121,20 +122,11 @@ module _ (log : List Rec) (d : Desk) (chain : chain-ok 1 log [] ≡ true) (said 
 
   pub desk-dropped : (after : List Rec) (b n stored : ℕ) → b ≢ 0 → place-of b (d .rows) < 8 → open-batches after ≡ drop-batch b (open-batches log) → n ≡ length after
       → desk-of after stored ≡ record { rows = without (d .rows) (place-of b (d .rows)); logged = n; stored = stored }
-  unfolding desk-of
   desk-dropped after b n stored nz h o en =
-      let bs = open-batches log in
-      let us = map row-of bs in
-      let (e, q) = said-place log d chain said b nz h in
-      let l = length-map bs row-of in
-      let was = sym (said-rows log d chain said) in
-      let at = sym e in
-      let sn = sym en in
-      let rows : eight-rows (map row-of (open-batches after)) ≡ without (d .rows) (place-of b (d .rows)) =
-      ap (λ (z : List Batch). eight-rows (map row-of z)) o ∙ ap eight-rows (drop-there b bs q)
-      ∙ eight-rows-without us (place-of b us) (omega arith) (said-few log d chain said)
-      ∙ (λ i. without (was i) (at i)) in
-      λ i. record { rows = rows i; logged = sn i; stored = stored }
+      desk-by after (without (d .rows) (place-of b (d .rows))) n stored
+      (ap rows-of o
+      ∙ subst (λ (rs : List Row). b ≢ 0 → place-of b rs < 8 → rows-of (drop-batch b (open-batches log)) ≡ without rs (place-of b rs)) was (rows-dropped (open-batches log) few b) nz h)
+      en
 
   pub desk-committed : (after : List Rec) (b previous n stored : ℕ) → b ≢ 0 → place-of b (d .rows) < 8 → after ≡ log ++ batch-row commit b previous ∷ [] → n ≡ length after
       → desk-of after stored ≡ record { rows = without (d .rows) (place-of b (d .rows)); logged = n; stored = stored }

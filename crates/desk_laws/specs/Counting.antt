@@ -1,14 +1,14 @@
 -- How many updates are pending and how many batches are open, after each record that a batch writes.
-use Prim.Native.Nat.{ℕ, zero, suc, _+_, _≤_, _<_}
-use mathlib.Core.Path.{_≡_, refl, sym, ap, _∙_, subst}
-use mathlib.Core.Option.{Option, none, some}
+use Prim.Native.Nat.{ℕ, suc, _+_}
+use mathlib.Core.Path.{_≡_, refl, ap}
+use mathlib.Core.Option.{some}
 use mathlib.Core.Bool.{Bool, true, false}
 use mathlib.Core.List.{List, [], _∷_, _++_}
 use native.Mathlib.Omega.{arith}
 use lib.ListN.{length}
 use lib.Dec.{eqb}
 use Rattle.base.specs.Tests.{pick, Case, yes!, no!, case, none-some, some-inj}
-use Rattle.model.specs.Batches.{Line, Batch, find-batch, change-batch, drop-batch, pending-count}
+use Rattle.model.specs.Batches.{Batch, find-batch, change-batch, drop-batch, pending-count}
 
 -- A batch that changes, by its number of lines.
 pub change-pending : (n : ℕ) (f : Batch → Batch) (bs : List Batch) (y : Batch) → find-batch n bs ≡ some y → pending-count (change-batch n f bs) + length (y .lines) ≡ pending-count bs + length (f y .lines)

@@ -1,8 +1,10 @@
 pub mod Same
 pub mod Opened
 pub mod Places
+pub mod Rows
 pub mod Said
 pub mod After
 pub mod Aborted
 pub mod Runs
 pub mod Counting
+pub mod Counts

@@ -1,8 +1,8 @@
 -- The open batches of a log, by their places: numbered from 1 and not above the log's last record, each number once, and at most eight.
 use Prim.Native.Nat.{ℕ, zero, suc, _+_, _≤_, _<_}
-use mathlib.Core.Path.{_≡_, refl, sym, ap, _∙_, subst}
+use mathlib.Core.Path.{_≡_, refl, sym, subst}
 use mathlib.Core.Logic.{_≢_}
-use mathlib.Core.Option.{Option, none, some}
+use mathlib.Core.Option.{none}
 use mathlib.Core.Bool.{Bool, true, false}
 use mathlib.Core.List.{List, [], _∷_, _++_}
 use native.Mathlib.Omega.{arith}
@@ -95,7 +95,7 @@ open-few log e = few-told 1 log [] e (omega arith)
 
 -- ---- by place
 
-from-one-at : (bs : List Batch) (i : ℕ) → FromOne bs → i < length bs → 0 < batch-at bs i .number
+pub from-one-at : (bs : List Batch) (i : ℕ) → FromOne bs → i < length bs → 0 < batch-at bs i .number
 unfolding FromOne
 from-one-at [] i h l = absurd (omega arith)
 from-one-at (b ∷ bs) zero h l = h .0
@@ -127,7 +127,7 @@ pub open-differ : (log : List Rec) (i j : ℕ) → i < j → j < length (open-ba
 open-differ log i j l k = distinct-at (open-batches log) i j (numbered-open log .distinct) l k
 
 -- Batch 0 is never open.
-from-one-none : (bs : List Batch) → FromOne bs → find-batch 0 bs ≡ none
+pub from-one-none : (bs : List Batch) → FromOne bs → find-batch 0 bs ≡ none
 unfolding FromOne find-batch
 from-one-none [] h = refl
 from-one-none (b ∷ bs) h = let a = h .0 in let n : 0 ≢ b .number = λ e. omega arith in rw (neq-false n) (from-one-none bs (h .1))

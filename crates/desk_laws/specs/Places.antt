@@ -1,21 +1,20 @@
 -- A batch among the open ones and its row among the desk's eight have one place.
 use Prim.Native.Nat.{ℕ, zero, suc, _+_, _-_, _≤_, _<_}
-use mathlib.Core.Path.{_≡_, refl, sym, ap, ap₂, _∙_, subst}
+use mathlib.Core.Path.{_≡_, refl, sym, ap, _∙_}
 use mathlib.Core.Logic.{_≢_}
-use mathlib.Core.Option.{Option, none, some}
+use mathlib.Core.Option.{none, some}
 use mathlib.Core.Bool.{Bool, true, false}
 use mathlib.Core.List.{List, [], _∷_, _++_, map}
 use native.Mathlib.Omega.{arith}
 use native.Mathlib.Decide.{decLt}
-use lib.ListN.{length, getD, set, take, drop, replicate, length-append, length-map, length-replicate, getD-replicate, List·getD-map, List·getD-append, List·getD-eq-default}
+use lib.ListN.{length, set, take, drop, replicate, length-append, length-replicate, getD-replicate, List·getD-map, List·getD-append, List·getD-eq-default}
 use lib.Seq.{getD-append-add}
 use lib.Dec.{eqb}
 use Rattle.base.specs.Tests.{pick, Case, yes!, no!, case, none-some, true-eq, eq-true, neq-false}
 use Rattle.layout.specs.declared.Row.{Row}
-use Rattle.layout.specs.Numbers.{tab}
 use Rattle.layout.specs.Desks.{no-row, row-at, eight-rows}
 use Rattle.model.specs.Batches.{Batch, find-batch, change-batch, drop-batch, next-undo, row-of}
-use Rattle.bytes.specs.Tables.{tab-is, getD-tab}
+use Rattle.bytes.specs.Tables.{tab-is}
 use Rattle.ledger_laws.specs.Held.{false-neq}
 use Rattle.desk.specs.Rows.{place-of}
 use Rattle.desk_laws.specs.Opened.{no-batch, batch-at}

@@ -1,12 +1,12 @@
 -- The desk after the run of each call that changes batches, where the run did not stop.
 use Prim.Native.Nat.{ℕ, suc, _<_}
-use mathlib.Core.Path.{_≡_, refl, sym, ap, _∙_}
+use mathlib.Core.Path.{_≡_, ap, _∙_}
 use mathlib.Core.Logic.{_≢_}
 use mathlib.Core.Bool.{true}
-use mathlib.Core.List.{List, [], _∷_, _++_}
+use mathlib.Core.List.{[]}
 use lib.ListN.{length, set}
 use Rattle.layout.specs.declared.Desk.{Desk}
-use Rattle.layout.specs.Records.{Rec, begin, insert, delete, commit, batch-row}
+use Rattle.layout.specs.Records.{begin, insert, delete, commit, batch-row}
 use Rattle.model.specs.Update.{Run, emit, put-record, remove-record}
 use Rattle.model.specs.Batches.{Batch, drop-batch, open-batches, chain-ok, desk-of}
 use Rattle.model.specs.Undo.{abort-run}

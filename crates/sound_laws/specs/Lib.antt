@@ -9,4 +9,5 @@ pub mod SortedList
 pub mod Formatted
 pub mod AcceptedPages
 pub mod Restarted
+pub mod RestartDesk
 pub mod OfBytes

@@ -163,6 +163,9 @@ module _ (a : Areas) (d : Desk) (b : Readable a) (p : passed (outcome restart a 
   unfolding restarted sl
   trailed = settle-trail (length (a .stable .pages)) (b .few) (redone a) (start .0) (start .1) ends
 
+  pub none-open : open-batches (restarted a .log) ≡ []
+  none-open = trailed .1
+
   core : Core (length (a .stable .pages)) (restarted a) sl
   unfolding sl
   core = trail-core (b .few) (trailed .0) (start .1)
@@ -189,7 +192,7 @@ module _ (a : Areas) (d : Desk) (b : Readable a) (p : passed (outcome restart a 
   free-all =
       let u = used-within (restarted a .pages) in
       let w = room in
-      subst (Reserved (restarted a .slots) (restarted a .pages) (restarted a .log)) (sym (trailed .1)) (record { slots-free = omega arith; pages-free = omega arith })
+      subst (Reserved (restarted a .slots) (restarted a .pages) (restarted a .log)) (sym none-open) (record { slots-free = omega arith; pages-free = omega arith })
 
   -- A RESTARTED REGISTER IS SOUND.
   pub restart-sound : sound (areas-after restart a d) (outcome restart a d .desk) ≡ true
