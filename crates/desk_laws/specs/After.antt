@@ -1,5 +1,5 @@
 -- The desk after a call's records: a row more, a row changed, or a row gone with the rest closing up.
-use Prim.Native.Nat.{ℕ, suc, _≤_, _<_}
+use Prim.Native.Nat.{ℕ, suc, _+_, _≤_, _<_}
 use mathlib.Core.Path.{_≡_, refl, sym, ap, ap₂, _∙_, subst}
 use mathlib.Core.Logic.{_≢_}
 use mathlib.Core.Bool.{true, false}
@@ -56,10 +56,6 @@ pub desk-none-open : (after : List Rec) (n stored : ℕ) → open-batches after 
 unfolding eight-rows tab
 desk-none-open after n stored o en = desk-by after (replicate 8 no-row) n stored (ap rows-of o) en
 
--- The row of batch b, among these, once its update number n is logged.
-abbrev pub updated-row : List Row → ℕ → ℕ → Row
-updated-row rows b n = record { batch = b; last = n; undo = n; pending = suc (row-at rows (place-of b rows) .pending) }
-
 module _ (log : List Rec) (d : Desk) (chain : chain-ok 1 log [] ≡ true) (said : d ≡ desk-of log (d .stored)) where
   few : length (open-batches log) ≤ 8
   few = open-few log chain
@@ -81,55 +77,54 @@ module _ (log : List Rec) (d : Desk) (chain : chain-ok 1 log [] ≡ true) (said 
       (ap rows-of o ∙ rows-added (open-batches log) x (omega arith) ∙ (λ i. set (was i) (l i) (new-row (sn i))))
       (sym (ap length e ∙ length-append log (batch-row begin n previous ∷ []) ∙ omega arith))
 
-  -- ---- an update: its batch's row changed
+  -- ---- an update: the row of its batch changed, at place i
 
-  changed-rows : (b : ℕ) (f : Batch → Batch) → b ≢ 0 → place-of b (d .rows) < 8
-      → rows-of (change-batch b f (open-batches log)) ≡ set (d .rows) (place-of b (d .rows)) (row-of (f (batch-at (open-batches log) (place-of b (d .rows)))))
-  changed-rows b f =
-      subst (λ (rs : List Row). b ≢ 0 → place-of b rs < 8 → rows-of (change-batch b f (open-batches log)) ≡ set rs (place-of b rs) (row-of (f (batch-at (open-batches log) (place-of b rs))))) was
-      (rows-changed (open-batches log) few b f)
+  changed-rows : (b i : ℕ) (f : Batch → Batch) → b ≢ 0 → i ≡ place-of b (d .rows) → i < 8
+      → rows-of (change-batch b f (open-batches log)) ≡ set (d .rows) i (row-of (f (batch-at (open-batches log) i)))
+  changed-rows b i f n e h =
+      let at-place = subst (λ (rs : List Row). b ≢ 0 → place-of b rs < 8 → rows-of (change-batch b f (open-batches log)) ≡ set rs (place-of b rs) (row-of (f (batch-at (open-batches log) (place-of b rs))))) was (rows-changed (open-batches log) few b f) in
+      subst (λ (j : ℕ). j < 8 → rows-of (change-batch b f (open-batches log)) ≡ set (d .rows) j (row-of (f (batch-at (open-batches log) j)))) (sym e) (at-place n) h
 
-  wrote-desk : (after : List Rec) (b n stored : ℕ) (l : Line) → b ≢ 0 → place-of b (d .rows) < 8 → n ≡ length after → l .number ≡ length after
+  wrote-desk : (after : List Rec) (b i p n stored : ℕ) (l : Line) → b ≢ 0 → i ≡ place-of b (d .rows) → i < 8 → p ≡ row-at (d .rows) i .pending + 1 → n ≡ length after → l .number ≡ length after
       → open-batches after ≡ change-batch b (written (length after) l) (open-batches log)
-      → desk-of after stored ≡ record { rows = set (d .rows) (place-of b (d .rows)) (updated-row (d .rows) b n); logged = n; stored = stored }
+      → desk-of after stored ≡ record { rows = set (d .rows) i (record { batch = b; last = n; undo = n; pending = p }); logged = n; stored = stored }
   unfolding row-of written next-undo
-  wrote-desk after b n stored l nz h en el o =
-      let i = place-of b (d .rows) in
+  wrote-desk after b i p n stored l nz e h ep en el o =
       let x = batch-at (open-batches log) i in
-      let num : x .number ≡ b = sym (find-number b (open-batches log) x (said-found log d chain said b nz h)) in
-      let pend : length (x .lines) ≡ row-at (d .rows) i .pending = ap (λ (r : Row). r .pending) (sym (said-row log d chain said i)) in
+      let num : x .number ≡ b = sym (find-number b (open-batches log) x (said-found log d chain said b i nz e h)) in
+      let was-pending : row-at (d .rows) i .pending ≡ length (x .lines) = ap (λ (r : Row). r .pending) (said-row log d chain said i) in
+      let pend : suc (length (x .lines)) ≡ p = omega arith in
       let sn = sym en in
       let un = el ∙ sn in
-      desk-by after (set (d .rows) i (updated-row (d .rows) b n)) n stored
-      (ap rows-of o ∙ changed-rows b (written (length after) l) nz h ∙ (λ j. set (d .rows) i (record { batch = num j; last = sn j; undo = un j; pending = suc (pend j) }))) en
+      desk-by after (set (d .rows) i (record { batch = b; last = n; undo = n; pending = p })) n stored
+      (ap rows-of o ∙ changed-rows b i (written (length after) l) nz e h ∙ (λ j. set (d .rows) i (record { batch = num j; last = sn j; undo = un j; pending = pend j }))) en
 
   -- Records of the tree, and then an update's own.
-  pub desk-inserted : (after body : List Rec) (b previous a k v n stored : ℕ) → b ≢ 0 → place-of b (d .rows) < 8 → AllStructural body
-      → after ≡ log ++ (body ++ data-row insert b previous a k v ∷ []) → n ≡ length after
-      → desk-of after stored ≡ record { rows = set (d .rows) (place-of b (d .rows)) (updated-row (d .rows) b n); logged = n; stored = stored }
+  pub desk-inserted : (after body : List Rec) (b previous a k v i p n stored : ℕ) → b ≢ 0 → i ≡ place-of b (d .rows) → i < 8 → p ≡ row-at (d .rows) i .pending + 1
+      → AllStructural body → after ≡ log ++ (body ++ data-row insert b previous a k v ∷ []) → n ≡ length after
+      → desk-of after stored ≡ record { rows = set (d .rows) i (record { batch = b; last = n; undo = n; pending = p }); logged = n; stored = stored }
   unfolding tell
-  desk-inserted after body b previous a k v n stored nz h q e en =
-      wrote-desk after b n stored (record { number = length after; adds = true; key = k; value = v }) nz h en refl (open-last log after body (data-row insert b previous a k v) q e)
+  desk-inserted after body b previous a k v i p n stored nz e h ep q w en =
+      wrote-desk after b i p n stored (record { number = length after; adds = true; key = k; value = v }) nz e h ep en refl (open-last log after body (data-row insert b previous a k v) q w)
 
-  pub desk-deleted : (after body : List Rec) (b previous a k v n stored : ℕ) → b ≢ 0 → place-of b (d .rows) < 8 → AllStructural body
-      → after ≡ log ++ (body ++ data-row delete b previous a k v ∷ []) → n ≡ length after
-      → desk-of after stored ≡ record { rows = set (d .rows) (place-of b (d .rows)) (updated-row (d .rows) b n); logged = n; stored = stored }
+  pub desk-deleted : (after body : List Rec) (b previous a k v i p n stored : ℕ) → b ≢ 0 → i ≡ place-of b (d .rows) → i < 8 → p ≡ row-at (d .rows) i .pending + 1
+      → AllStructural body → after ≡ log ++ (body ++ data-row delete b previous a k v ∷ []) → n ≡ length after
+      → desk-of after stored ≡ record { rows = set (d .rows) i (record { batch = b; last = n; undo = n; pending = p }); logged = n; stored = stored }
   unfolding tell
-  desk-deleted after body b previous a k v n stored nz h q e en =
-      wrote-desk after b n stored (record { number = length after; adds = false; key = k; value = v }) nz h en refl (open-last log after body (data-row delete b previous a k v) q e)
+  desk-deleted after body b previous a k v i p n stored nz e h ep q w en =
+      wrote-desk after b i p n stored (record { number = length after; adds = false; key = k; value = v }) nz e h ep en refl (open-last log after body (data-row delete b previous a k v) q w)
 
-  -- ---- a row gone
+  -- ---- a batch gone: its row goes, and the rest close up
 
-  pub desk-dropped : (after : List Rec) (b n stored : ℕ) → b ≢ 0 → place-of b (d .rows) < 8 → open-batches after ≡ drop-batch b (open-batches log) → n ≡ length after
-      → desk-of after stored ≡ record { rows = without (d .rows) (place-of b (d .rows)); logged = n; stored = stored }
-  desk-dropped after b n stored nz h o en =
-      desk-by after (without (d .rows) (place-of b (d .rows))) n stored
-      (ap rows-of o
-      ∙ subst (λ (rs : List Row). b ≢ 0 → place-of b rs < 8 → rows-of (drop-batch b (open-batches log)) ≡ without rs (place-of b rs)) was (rows-dropped (open-batches log) few b) nz h)
-      en
+  pub desk-dropped : (after : List Rec) (b i n stored : ℕ) → b ≢ 0 → i ≡ place-of b (d .rows) → i < 8 → open-batches after ≡ drop-batch b (open-batches log) → n ≡ length after
+      → desk-of after stored ≡ record { rows = without (d .rows) i; logged = n; stored = stored }
+  desk-dropped after b i n stored nz e h o en =
+      let at-place = subst (λ (rs : List Row). b ≢ 0 → place-of b rs < 8 → rows-of (drop-batch b (open-batches log)) ≡ without rs (place-of b rs)) was (rows-dropped (open-batches log) few b) in
+      desk-by after (without (d .rows) i) n stored
+      (ap rows-of o ∙ subst (λ (j : ℕ). j < 8 → rows-of (drop-batch b (open-batches log)) ≡ without (d .rows) j) (sym e) (at-place nz) h) en
 
-  pub desk-committed : (after : List Rec) (b previous n stored : ℕ) → b ≢ 0 → place-of b (d .rows) < 8 → after ≡ log ++ batch-row commit b previous ∷ [] → n ≡ length after
-      → desk-of after stored ≡ record { rows = without (d .rows) (place-of b (d .rows)); logged = n; stored = stored }
+  pub desk-committed : (after : List Rec) (b previous i n stored : ℕ) → b ≢ 0 → i ≡ place-of b (d .rows) → i < 8 → after ≡ log ++ batch-row commit b previous ∷ [] → n ≡ length after
+      → desk-of after stored ≡ record { rows = without (d .rows) i; logged = n; stored = stored }
   unfolding tell
-  desk-committed after b previous n stored nz h e en =
-      desk-dropped after b n stored nz h (ap open-batches e ∙ open-more log (batch-row commit b previous)) en
+  desk-committed after b previous i n stored nz e h w en =
+      desk-dropped after b i n stored nz e h (ap open-batches w ∙ open-more log (batch-row commit b previous)) en

@@ -12,6 +12,9 @@ use Rattle.base.specs.Tests.{pick, and-true, true-le, neq-false}
 use Rattle.layout.specs.Desks.{most-open}
 use Rattle.layout.specs.Records.{Rec, Kind, begin, insert, delete, undo-insert, undo-delete, commit, abort-mark, end, split, link, unlink, merge, redistribute, raise, lower}
 use Rattle.model.specs.Batches.{Batch, find-batch, change-batch, drop-batch, written, undone, mark-set, tell, told, open-batches, chains, chain-step, chain-ok}
+use Rattle.model.specs.Log.{records-of, slots-ok}
+use Rattle.model.specs.Areas.{Side}
+use Rattle.model.specs.Sound.{log-ok}
 use Rattle.ledger_laws.specs.Held.{Fresh, Distinct}
 use Rattle.ledger_laws.specs.Batching.{Within}
 use Rattle.ledger_laws.specs.Telling.{numbered-open}
@@ -92,6 +95,11 @@ few-told n (r ∷ log) bs e h =
 pub open-few : (log : List Rec) → chain-ok 1 log [] ≡ true → length (open-batches log) ≤ 8
 unfolding open-batches
 open-few log e = few-told 1 log [] e (omega arith)
+
+-- Areas in which restart's 4 finds nothing have a log that keeps the chain.
+pub log-chain : (s : Side) → log-ok s ≡ true → chain-ok 1 (records-of (s .log)) [] ≡ true
+unfolding log-ok
+log-chain s e = and-true (chain-ok 1 (records-of (s .log)) []) _ (and-true (slots-ok (length (s .pages)) 1 (s .log)) _ e .1) .0
 
 -- ---- by place
 

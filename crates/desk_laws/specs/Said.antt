@@ -1,6 +1,6 @@
 -- What a desk that is the one its log says tells of the log: how many records and open batches there are, and which batch has a row.
 use Prim.Native.Nat.{ℕ, _≤_, _<_}
-use mathlib.Core.Path.{_≡_, sym, ap, subst}
+use mathlib.Core.Path.{_≡_, sym, ap, _∙_, subst}
 use mathlib.Core.Logic.{_≢_}
 use mathlib.Core.Option.{none, some}
 use mathlib.Core.Bool.{true}
@@ -32,15 +32,18 @@ module _ (log : List Rec) (d : Desk) (chain : chain-ok 1 log [] ≡ true) (said 
   pub said-used : place-of 0 (d .rows) ≡ length (open-batches log)
   said-used = subst (λ (rs : List Row). place-of 0 rs ≡ length (open-batches log)) said-rows (rows-used (open-batches log) (open-few log chain) (open-from-one log))
 
-  -- A batch without a row is not open. (Nor is batch 0: `zero-not-open`.)
-  pub said-none : (b : ℕ) → 8 ≤ place-of b (d .rows) → find-batch b (open-batches log) ≡ none
-  said-none = subst (λ (rs : List Row). (b : ℕ) → 8 ≤ place-of b rs → find-batch b (open-batches log) ≡ none) said-rows (rows-none (open-batches log) (open-few log chain))
+  -- With i the place of batch b's row: a batch without a row is not open (nor is batch 0: `zero-not-open`).
+  pub said-none : (b i : ℕ) → i ≡ place-of b (d .rows) → 8 ≤ i → find-batch b (open-batches log) ≡ none
+  said-none =
+      subst (λ (rs : List Row). (b i : ℕ) → i ≡ place-of b rs → 8 ≤ i → find-batch b (open-batches log) ≡ none) said-rows
+      (λ b i e h. rows-none (open-batches log) (open-few log chain) b (subst (λ (j : ℕ). 8 ≤ j) e h))
 
   -- A batch with a row is the one at that place.
-  pub said-found : (b : ℕ) → b ≢ 0 → place-of b (d .rows) < 8 → find-batch b (open-batches log) ≡ some (batch-at (open-batches log) (place-of b (d .rows)))
+  pub said-found : (b i : ℕ) → b ≢ 0 → i ≡ place-of b (d .rows) → i < 8 → find-batch b (open-batches log) ≡ some (batch-at (open-batches log) i)
   said-found =
-      subst (λ (rs : List Row). (b : ℕ) → b ≢ 0 → place-of b rs < 8 → find-batch b (open-batches log) ≡ some (batch-at (open-batches log) (place-of b rs))) said-rows
-      (rows-found (open-batches log) (open-few log chain))
+      subst (λ (rs : List Row). (b i : ℕ) → b ≢ 0 → i ≡ place-of b rs → i < 8 → find-batch b (open-batches log) ≡ some (batch-at (open-batches log) i)) said-rows
+      (λ b i n e h.
+      rows-found (open-batches log) (open-few log chain) b n (subst (λ (j : ℕ). j < 8) e h) ∙ ap (λ (j : ℕ). some (batch-at (open-batches log) j)) (sym e))
 
   -- The other way: an open batch has a row, which is its own.
   pub said-open : (b : ℕ) (x : Batch) → find-batch b (open-batches log) ≡ some x → (b ≢ 0) × (place-of b (d .rows) < 8) × (row-at (d .rows) (place-of b (d .rows)) ≡ row-of x)

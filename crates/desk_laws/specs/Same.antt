@@ -7,6 +7,9 @@ use Rattle.base.specs.Tests.{clash, and-true, and-both, true-eq, eq-true}
 use Rattle.layout.specs.declared.Row.{Row}
 use Rattle.layout.specs.declared.Desk.{Desk}
 use Rattle.layout.specs.Desks.{same-row, same-rows, same-desk}
+use Rattle.model.specs.Areas.{Areas}
+use Rattle.model.specs.Batches.{desk-of}
+use Rattle.model.specs.Sound.{work-log, desk-ok}
 
 row-same : (x y : Row) → same-row x y ≡ true → x ≡ y
 unfolding same-row
@@ -38,6 +41,11 @@ desk-same d e h =
     let l′ = true-eq (d .logged) (e .logged) l in
     let s′ = true-eq (d .stored) (e .stored) s in
     λ i. record { rows = r′ i; logged = l′ i; stored = s′ i }
+
+-- A desk that passes the test of soundness.
+pub desk-said : (a : Areas) (d : Desk) → desk-ok a d ≡ true → d ≡ desk-of (work-log a) (d .stored)
+unfolding desk-ok
+desk-said a d h = desk-same d (desk-of (work-log a) (d .stored)) h
 
 -- ---- and a desk is the same as itself
 
