@@ -1,52 +1,79 @@
--- The open batches after an abort that did not stop: the batch is gone, and the others are as they were.
+-- The open batches after a run: what a record that was logged tells, and that an abort takes its batch away and leaves the others.
 use Prim.Native.Nat.{ℕ, suc}
-use mathlib.Core.Path.{_≡_, refl, ap, _∙_}
+use mathlib.Core.Path.{_≡_, refl, sym, ap, _∙_}
 use mathlib.Core.Bool.{Bool, true, false}
-use mathlib.Core.List.{List, [], _∷_}
+use mathlib.Core.List.{List, [], _∷_, _++_}
+use native.Mathlib.Omega.{arith}
+use native.Mathlib.Decide.{ℕ-discrete}
 use lib.ListN.{length}
-use Rattle.layout.specs.Records.{Rec, undo-insert, undo-delete, abort-mark, batch-row, data-row}
-use Rattle.model.specs.Update.{Run, emit}
-use Rattle.model.specs.Batches.{Line, Batch, change-batch, drop-batch, next-undo, undone, mark-set, tell, open-batches}
+use lib.Dec.{leb}
+use Rattle.base.specs.Tests.{Case, yes!, no!, case}
+use Rattle.layout.specs.Records.{Rec, abort-mark, batch-row}
+use Rattle.model.specs.Update.{Run, going, logged, emit-by, emit, put-record, remove-record}
+use Rattle.model.specs.Batches.{Line, Batch, drop-batch, next-undo, undone, mark-set, tell, open-batches}
 use Rattle.model.specs.Undo.{undo-by, undo-line, undo-lines, end-batch, abort-run}
-use Rattle.update_laws.specs.Wrote.{put-wrote, remove-wrote}
+use Rattle.update_laws.specs.Keeps.{Structural, keep-find-add, keep-find-remove, stuck-emit}
+use Rattle.update_laws.specs.Way.{emit-goes, emit-stops}
+use Rattle.ledger_laws.specs.Batching.{drop-change}
 use Rattle.ledger_laws.specs.Telling.{open-more}
-use Rattle.history_laws.specs.Trail.{unstopped-emit}
-use Rattle.history_laws.specs.Undoing.{went-on, lines-stuck, end-stuck, drop-change}
-use Rattle.desk_laws.specs.After.{open-last}
+use Rattle.desk_laws.specs.After.{structural-tells}
 
--- A record that did not stop the run tells with the number after the log's last.
-pub open-emitted : (r : Rec) (s : Run) → emit r s .stop ≡ 0 → open-batches (emit r s .log) ≡ tell (r .kind) (suc (length (s .log))) r (open-batches (s .log))
-open-emitted r s z = ap (λ t. open-batches (t .log)) (unstopped-emit r s z .is) ∙ open-more (s .log) r
+-- ---- one record
 
--- One line undone changes its batch alone.
-undone-by : (a : Bool) (n next : ℕ) (l : Line) (s : Run) → undo-by a n next l s .stop ≡ 0
-    → (m : ℕ) × (open-batches (undo-by a n next l s .log) ≡ change-batch n (undone m) (open-batches (s .log)))
-unfolding undo-by tell
-undone-by true n next l s z =
-    let w = remove-wrote undo-insert n next (l .key) 0 s z in
-    (_, open-last (s .log) (undo-by true n next l s .log) (w .body) (data-row undo-insert n next (w .page) (l .key) 0) (w .structural) (w .written))
-undone-by false n next l s z =
-    let w = put-wrote undo-delete n next (l .key) (l .value) s z in
-    (_, open-last (s .log) (undo-by false n next l s .log) (w .body) (data-row undo-delete n next (w .page) (l .key) (l .value)) (w .structural) (w .written))
+-- A record that did not stop the run was logged.
+pub emit-log : (r : Rec) (s : Run) → emit r s .stop ≡ 0 → emit r s .log ≡ s .log ++ r ∷ []
+emit-log r s z = go (ℕ-discrete (s .stop) 0) (case (leb (s .due) (s .slots)))
+  where
+    go : Dec (s .stop ≡ 0) → Case (leb (s .due) (s .slots)) → emit r s .log ≡ s .log ++ r ∷ []
+    go (no n) c = absurd (stuck-emit r s n z)
+    go (yes e) (yes! f) = ap (λ t. t .log) (emit-goes r s e f)
+    go (yes e) (no! f) = let w : 17 ≡ emit r s .stop = sym (ap (λ t. t .stop) (emit-stops r s e f)) in absurd (omega arith)
 
-line-others : (n next : ℕ) (l : Line) (s : Run) → undo-line n next l s .stop ≡ 0 → drop-batch n (open-batches (undo-line n next l s .log)) ≡ drop-batch n (open-batches (s .log))
-unfolding undo-line undone
-line-others n next l s z = let (m, e) = undone-by (l .adds) n next l s z in ap (drop-batch n) e ∙ drop-change n (undone m) (open-batches (s .log)) (λ b. refl)
+-- What holds of the log with it and without it holds after it, stopped or not.
+log-by : (P : List Rec → Type 0) (a b : Bool) (r : Rec) (s : Run) → P (s .log) → P (s .log ++ r ∷ []) → P (emit-by a b r s .log)
+unfolding emit-by logged
+log-by P true true r s p q = q
+log-by P true false r s p q = p
+log-by P false b r s p q = p
 
-lines-others : (n : ℕ) (ls : List Line) (s : Run) → undo-lines n ls s .stop ≡ 0 → drop-batch n (open-batches (undo-lines n ls s .log)) ≡ drop-batch n (open-batches (s .log))
-unfolding undo-lines
-lines-others n [] s z = refl
-lines-others n (l ∷ ls) s z =
-    let t = undo-line n (next-undo ls) l s in
-    lines-others n ls t z ∙ line-others n (next-undo ls) l s (went-on (undo-lines n ls) (lines-stuck n ls) t z)
+log-either : (P : List Rec → Type 0) (r : Rec) (s : Run) → P (s .log) → P (s .log ++ r ∷ []) → P (emit r s .log)
+unfolding emit
+log-either P r s p q = log-by P (going s) (leb (s .due) (s .slots)) r s p q
 
+-- ---- an abort
+
+-- The batches but number n, which its marks and undos and the records of the tree leave as they were.
+module _ (n : ℕ) (others : List Batch) where
+  abbrev Beside : Run → Type 0
+  Beside s = drop-batch n (open-batches (s .log)) ≡ others
+
+  beside-emit : (r : Rec) (s : Run) → ((m : ℕ) (bs : List Batch) → drop-batch n (tell (r .kind) m r bs) ≡ drop-batch n bs) → Beside s → Beside (emit r s)
+  beside-emit r s k i =
+      log-either (λ log. drop-batch n (open-batches log) ≡ others) r s i
+      (ap (drop-batch n) (open-more (s .log) r) ∙ k (suc (length (s .log))) (open-batches (s .log)) ∙ i)
+
+  beside-tree : (r : Rec) → Structural (r .kind) → (s : Run) → Beside s → Beside (emit r s)
+  beside-tree r q s i = beside-emit r s (λ m bs. ap (drop-batch n) (structural-tells (r .kind) q m r bs)) i
+
+  beside-undo : (a : Bool) (next : ℕ) (l : Line) (s : Run) → Beside s → Beside (undo-by a n next l s)
+  unfolding undo-by put-record remove-record tell undone
+  beside-undo true next l s i = beside-emit _ _ (λ m bs. drop-change n (undone m) bs (λ b. refl)) (keep-find-remove Beside beside-tree (λ t j. j) _ (l .key) s i)
+  beside-undo false next l s i = beside-emit _ _ (λ m bs. drop-change n (undone m) bs (λ b. refl)) (keep-find-add Beside beside-tree (λ t j. j) (l .key) s i)
+
+  beside-lines : (ls : List Line) (s : Run) → Beside s → Beside (undo-lines n ls s)
+  unfolding undo-lines undo-line
+  beside-lines [] s i = i
+  beside-lines (l ∷ ls) s i = beside-lines ls (undo-line n (next-undo ls) l s) (beside-undo (l .adds) (next-undo ls) l s i)
+
+  beside-mark : (previous : ℕ) (s : Run) → Beside s → Beside (emit (batch-row abort-mark n previous) s)
+  unfolding tell mark-set
+  beside-mark previous s i = beside-emit (batch-row abort-mark n previous) s (λ m bs. drop-change n (mark-set m) bs (λ b. refl)) i
+
+-- AN ABORT that did not stop takes its batch away.
 pub open-aborted : (b : Batch) (s : Run) → abort-run b s .stop ≡ 0 → open-batches (abort-run b s .log) ≡ drop-batch (b .number) (open-batches (s .log))
-unfolding abort-run end-batch tell mark-set
+unfolding abort-run end-batch tell
 open-aborted b s z =
-    let n = b .number in
-    let t = emit (batch-row abort-mark n (b .last)) s in
-    let u = undo-lines n (b .lines) t in
-    let zu : u .stop ≡ 0 = went-on (end-batch n) (end-stuck n) u z in
-    let zt : t .stop ≡ 0 = went-on (undo-lines n (b .lines)) (lines-stuck n (b .lines)) t zu in
-    open-emitted _ u z ∙ lines-others n (b .lines) t zu ∙ ap (drop-batch n) (open-emitted (batch-row abort-mark n (b .last)) s zt)
-    ∙ drop-change n (mark-set (suc (length (s .log)))) (open-batches (s .log)) (λ a. refl)
+    let others = drop-batch (b .number) (open-batches (s .log)) in
+    let t = emit (batch-row abort-mark (b .number) (b .last)) s in
+    let u = undo-lines (b .number) (b .lines) t in
+    ap open-batches (emit-log _ u z) ∙ open-more (u .log) _ ∙ beside-lines (b .number) others (b .lines) t (beside-mark (b .number) others (b .last) s refl)

@@ -23,7 +23,7 @@ use Rattle.desk_laws.specs.Said.{said-rows, said-row, said-used, said-fo
 
 -- ---- records of the tree say nothing of batches
 
-structural-tells : (k : Kind) → Structural k → (n : ℕ) (r : Rec) (bs : List Batch) → tell k n r bs ≡ bs
+pub structural-tells : (k : Kind) → Structural k → (n : ℕ) (r : Rec) (bs : List Batch) → tell k n r bs ≡ bs
 unfolding tell
 structural-tells split splitting n r bs = refl
 structural-tells link linking n r bs = refl

@@ -12,16 +12,15 @@ use Rattle.model.specs.Update.{Run, emit, put-record, remove-record}
 use Rattle.model.specs.Batches.{Batch, drop-batch, open-batches, chain-ok, desk-of}
 use Rattle.model.specs.Undo.{abort-run}
 use Rattle.update_laws.specs.Wrote.{put-wrote, remove-wrote}
-use Rattle.history_laws.specs.Trail.{unstopped-emit}
 use Rattle.desk.specs.Rows.{place-of, new-row, without}
 use Rattle.desk_laws.specs.After.{desk-begun, desk-inserted, desk-deleted, desk-dropped, desk-committed}
-use Rattle.desk_laws.specs.Aborted.{open-aborted}
+use Rattle.desk_laws.specs.Aborted.{emit-log, open-aborted}
 
 module _ (s : Run) (d : Desk) (chain : chain-ok 1 (s .log) [] ≡ true) (said : d ≡ desk-of (s .log) (d .stored)) where
   pub begin-desk : (n previous stored : ℕ) → place-of 0 (d .rows) < 8 → n ≡ suc (length (s .log)) → emit (batch-row begin n previous) s .stop ≡ 0
       → desk-of (emit (batch-row begin n previous) s .log) stored ≡ record { rows = set (d .rows) (place-of 0 (d .rows)) (new-row n); logged = n; stored = stored }
   begin-desk n previous stored h en z =
-      desk-begun (s .log) d chain said (emit (batch-row begin n previous) s .log) n previous stored h en (ap (λ t. t .log) (unstopped-emit (batch-row begin n previous) s z .is))
+      desk-begun (s .log) d chain said (emit (batch-row begin n previous) s .log) n previous stored h en (emit-log (batch-row begin n previous) s z)
 
   -- With i the place of batch b's row.
   pub insert-desk : (b previous k v i p n stored : ℕ) → b ≢ 0 → i ≡ place-of b (d .rows) → i < 8 → p ≡ row-at (d .rows) i .pending + 1
@@ -41,7 +40,7 @@ module _ (s : Run) (d : Desk) (chain : chain-ok 1 (s .log) [] ≡ true) (said : 
   pub commit-desk : (b previous i n stored : ℕ) → b ≢ 0 → i ≡ place-of b (d .rows) → i < 8 → emit (batch-row commit b previous) s .stop ≡ 0 → n ≡ length (emit (batch-row commit b previous) s .log)
       → desk-of (emit (batch-row commit b previous) s .log) stored ≡ record { rows = without (d .rows) i; logged = n; stored = stored }
   commit-desk b previous i n stored nz e h z en =
-      desk-committed (s .log) d chain said (emit (batch-row commit b previous) s .log) b previous i n stored nz e h (ap (λ t. t .log) (unstopped-emit (batch-row commit b previous) s z .is)) en
+      desk-committed (s .log) d chain said (emit (batch-row commit b previous) s .log) b previous i n stored nz e h (emit-log (batch-row commit b previous) s z) en
 
   -- y is the batch, found by its number b.
   pub abort-desk : (y : Batch) (b i n stored : ℕ) → y .number ≡ b → b ≢ 0 → i ≡ place-of b (d .rows) → i < 8 → abort-run y s .stop ≡ 0 → n ≡ length (abort-run y s .log)

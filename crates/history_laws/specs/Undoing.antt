@@ -8,8 +8,6 @@ use mathlib.Core.List.{List, [], _∷_, _++_}
 use native.Mathlib.Omega.{arith}
 use native.Mathlib.Decide.{ℕ-discrete}
 use lib.ListN.{length}
-use lib.Dec.{eqb}
-use Rattle.base.specs.Tests.{pick, Case, yes!, no!, case, clash, none-some, some-inj, true-eq, eq-true}
 use Rattle.layout.specs.declared.Entry.{Entry}
 use Rattle.layout.specs.Entries.{top, look}
 use Rattle.layout.specs.Pages.{map-bits}
@@ -24,7 +22,7 @@ use Rattle.update_laws.specs.Way.{written-by}
 use Rattle.ledger_laws.specs.Runs.{Does, DoesBy}
 use Rattle.ledger_laws.specs.Settles.{newest-does}
 use Rattle.ledger_laws.specs.Small.{SmallLines, found-small, small-first}
-use Rattle.ledger_laws.specs.Batching.{find-change}
+use Rattle.ledger_laws.specs.Batching.{find-change, drop-change}
 use Rattle.history_laws.specs.Core.{Core, told-due}
 use Rattle.history_laws.specs.Notes.{mark-next, end-next}
 use Rattle.history_laws.specs.Trail
@@ -67,17 +65,6 @@ went-on f h s z = go (ℕ-discrete (s .stop) 0)
     go : Dec (s .stop ≡ 0) → s .stop ≡ 0
     go (yes e) = e
     go (no e) = absurd (h s e z)
-
--- ---- batches by number
-
-pub drop-change : (n : ℕ) (f : Batch → Batch) (bs : List Batch) → ((b : Batch) → f b .number ≡ b .number) → drop-batch n (change-batch n f bs) ≡ drop-batch n bs
-unfolding drop-batch change-batch
-drop-change n f [] k = refl
-drop-change n f (b ∷ bs) k = go (case (eqb n (b .number))) (drop-change n f bs k)
-  where
-    go : Case (eqb n (b .number)) → drop-batch n (change-batch n f bs) ≡ drop-batch n bs → drop-batch n (pick (eqb n (b .number)) (f b ∷ bs) (b ∷ change-batch n f bs)) ≡ pick (eqb n (b .number)) bs (b ∷ drop-batch n bs)
-    go (no! t) i = rw (t, t, i)
-    go (yes! t) i = rw (t, eq-true n (f b .number) (true-eq n (b .number) t ∙ sym (k b)))
 
 -- ---- one line
 

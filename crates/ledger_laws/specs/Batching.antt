@@ -55,6 +55,16 @@ unfolding find-batch Fresh
 find-end n [] b f e = rw (eq-true n (b .number) e)
 find-end n (a ∷ bs) b f e = rw (neq-false (f .0)) (find-end n bs b (f .1) e)
 
+-- Dropped, it is gone however it was changed.
+pub drop-change : (n : ℕ) (f : Batch → Batch) (bs : List Batch) → ((b : Batch) → f b .number ≡ b .number) → drop-batch n (change-batch n f bs) ≡ drop-batch n bs
+unfolding drop-batch change-batch
+drop-change n f [] k = refl
+drop-change n f (b ∷ bs) k = go (case (eqb n (b .number))) (drop-change n f bs k)
+  where
+    go : Case (eqb n (b .number)) → drop-batch n (change-batch n f bs) ≡ drop-batch n bs → drop-batch n (pick (eqb n (b .number)) (f b ∷ bs) (b ∷ change-batch n f bs)) ≡ pick (eqb n (b .number)) bs (b ∷ drop-batch n bs)
+    go (no! t) i = rw (t, t, i)
+    go (yes! t) i = rw (t, eq-true n (f b .number) (true-eq n (b .number) t ∙ sym (k b)))
+
 -- ---- numbers
 
 -- The batches' numbers and their lines' are not above m; lines are numbered from 1.
