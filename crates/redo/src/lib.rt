@@ -36,7 +36,7 @@ pub fn page_at(pages: &[u8], n: usize, p: u32) -> Page
 }
 
 // Page p anew; past the last page there is nothing to write.
-fn put_page(pages: &mut [u8], n: usize, p: u32, x: Page)
+pub fn put_page(pages: &mut [u8], n: usize, p: u32, x: Page)
     requires { ⌜ (length (now pages) ≡ 128 * n) × (n ≤ 896) ⌝ }
     ensures { λ _. ⌜ ((xs : List layout.Page) → Pages n (now (pages .entry)) xs → Fits (typed x) → Pages n (now (pages .exit)) (set xs p (typed x))) ⌝ }
 {

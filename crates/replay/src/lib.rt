@@ -1,12 +1,30 @@
 // Restart's redo of a whole log: each record at its pages, judged page by page, with the count of the page changes that it applied.
 use change::Record;
+use change::apply;
+use change::parts;
+use fit::fits;
 use layout::Entry;
+use redo::page_at;
+use redo::put_page;
 use slot::Header;
 use slot::read_at;
 ghost use mathlib.Core.Path.{_≡_};
-ghost use Prim.Native.Nat.{_*_, _≤_};
+ghost use mathlib.Core.Bool.{false};
+ghost use mathlib.Core.List.{List};
+ghost use Prim.Native.Nat.{_+_, _*_, _≤_};
 ghost use lib.ListN.{length};
+ghost use Rattle.layout.specs.Pages as layout;
+ghost use Rattle.change.specs.Pages.{rec};
+ghost use Rattle.redo.specs.Pages.{Pages};
+ghost use Rattle.redo.specs.Records.{Keeps};
 ghost use Rattle.replay.specs.Slots.{Tells};
+ghost use Rattle.replay.specs.Outcomes.{Outcome, Answers, pair, part, followed, one-record};
+
+// Whether every change that was reached fits its page, and how many of them were applied.
+pub struct Redone {
+    pub fits: bool,
+    pub count: u32,
+}
 
 fn no_record() -> Record
     ensures { λ r. ⌜ r .count ≤ 14 ⌝ }
@@ -80,4 +98,75 @@ pub fn record_at(log: &[u8], m: usize, i: usize) -> Record
         right,
         entries,
     }
+}
+
+// Record r, number k, at page p. A page whose number is lower must fit: one that does not is left as it is.
+pub fn redo_checked(pages: &mut [u8], n: usize, r: Record, k: u32, p: u32) -> Redone
+    requires { ⌜ (length (now pages) ≡ 128 * n) × (n ≤ 896) × (r .count ≤ 14) ⌝ }
+    ensures { λ d. ⌜ (d .count ≤ 1) × (d .fits ≡ false → now (pages .exit) ≡ now (pages .entry)) × ((xs : List layout.Page) → Pages n (now (pages .entry)) xs → Keeps k (rec r) → Answers n (now (pages .exit)) d (pair k (rec r) p xs)) ⌝ }
+{
+    let x = page_at(pages, n, p);
+    if x.lsn >= k {
+        return Redone {
+            fits: true,
+            count: 0,
+        };
+    }
+    if !fits(r, p as usize, x) {
+        return Redone {
+            fits: false,
+            count: 0,
+        };
+    }
+    let y = apply(r, k, p as usize, x);
+    put_page(pages, n, p, y);
+    Redone {
+        fits: true,
+        count: 1,
+    }
+}
+
+// The same after what was done so far, where that fits and the record has the part.
+fn redo_part(
+    pages: &mut [u8],
+    n: usize,
+    r: Record,
+    k: u32,
+    on: bool,
+    p: u32,
+    done: Redone,
+) -> Redone
+    requires { ⌜ (length (now pages) ≡ 128 * n) × (n ≤ 896) × (r .count ≤ 14) × (done .count ≤ 3) ⌝ }
+    ensures { λ d. ⌜ (d .count ≤ done .count + 1) × ((o : Outcome) → Answers n (now (pages .entry)) done o → Keeps k (rec r) → Answers n (now (pages .exit)) d (followed o (part on k (rec r) p (o .pages)))) ⌝ }
+{
+    if !done.fits {
+        return done;
+    }
+    if !on {
+        return done;
+    }
+    let d = redo_checked(pages, n, r, k, p);
+    if !d.fits {
+        return d;
+    }
+    Redone {
+        fits: true,
+        count: done.count + d.count,
+    }
+}
+
+// Record r, number k, at the pages that it changes, up to the first that does not fit: A, then B or C, then the map.
+pub fn redo_places(pages: &mut [u8], n: usize, r: Record, k: u32) -> Redone
+    requires { ⌜ (length (now pages) ≡ 128 * n) × (n ≤ 896) × (r .count ≤ 14) ⌝ }
+    ensures { λ d. ⌜ (d .count ≤ 4) × ((xs : List layout.Page) → Pages n (now (pages .entry)) xs → Keeps k (rec r) → Answers n (now (pages .exit)) d (one-record k (rec r) xs)) ⌝ }
+{
+    let bits = parts(r.kind);
+    let none = Redone {
+        fits: true,
+        count: 0,
+    };
+    let a = redo_part(pages, n, r, k, bits / 8 % 2 == 1, r.a, none);
+    let b = redo_part(pages, n, r, k, bits / 4 % 2 == 1, r.b, a);
+    let c = redo_part(pages, n, r, k, bits / 2 % 2 == 1, r.c, b);
+    redo_part(pages, n, r, k, bits % 2 == 1, 0, c)
 }
