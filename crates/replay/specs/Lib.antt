@@ -1,3 +1,4 @@
 pub mod Slots
 pub mod Outcomes
 pub mod Pairs
+pub mod Logs

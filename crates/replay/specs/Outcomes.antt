@@ -1,17 +1,17 @@
 -- What redo comes to: whether every change that it reaches fits, how many page changes it applies, and the pages after it. Of a page, of a
 -- record at its places, of a log.
 use mathlib.Core.Path.{_≡_, refl, ap, ap₂, sym, _∙_, subst}
-use Prim.Native.Nat.{ℕ, zero, suc, _+_}
+use Prim.Native.Nat.{ℕ, _+_}
 use native.Mathlib.Omega.{arith}
 use native.Mathlib.Nat.{zero-add}
 use mathlib.Core.Bool.{Bool, true, false, _&&_}
-use mathlib.Core.List.{List, [], _∷_}
+use mathlib.Core.List.{List, []}
 use Rattle.base.specs.Tests.{pick, clash}
 use Rattle.layout.specs.Pages.{Page, at}
 use Rattle.layout.specs.Records.{Rec}
 use Rattle.model.specs.Change.{shape}
 use Rattle.model.specs.Fit.{fits}
-use Rattle.model.specs.Redo.{when-named, places, is-lower, redo-page, redo-places, redo-record, replay, count-places, redo-count, fits-places, redo-fits}
+use Rattle.model.specs.Redo.{when-named, places, is-lower, redo-page, redo-places, replay, count-places, redo-count, fits-places, redo-fits}
 use Rattle.redo.specs.Pages.{Pages}
 use Rattle.replay.specs.declared.Redone.{Redone}
 
@@ -54,7 +54,7 @@ followed a b = record { fits = a .fits && b .fits; count = a .count + b .count; 
 abbrev pub nothing : List Page → Outcome
 nothing xs = record { fits = true; count = 0; pages = xs }
 
-followed-assoc : (a b c : Outcome) → followed a (followed b c) ≡ followed (followed a b) c
+pub followed-assoc : (a b c : Outcome) → followed a (followed b c) ≡ followed (followed a b) c
 followed-assoc a b c =
     let z : a .count + (b .count + c .count) ≡ a .count + b .count + c .count = omega arith in
     ap₂ (λ (f : Bool) (n : ℕ). record { fits = f; count = n; pages = c .pages }) (all (a .fits)) z
@@ -63,7 +63,7 @@ followed-assoc a b c =
     all true = refl
     all false = refl
 
-followed-nothing : (a : Outcome) → followed a (nothing (a .pages)) ≡ a
+pub followed-nothing : (a : Outcome) → followed a (nothing (a .pages)) ≡ a
 followed-nothing a =
     let z : a .count + 0 ≡ a .count = omega arith in
     ap₂ (λ (f : Bool) (n : ℕ). record { fits = f; count = n; pages = a .pages }) (all (a .fits)) z
@@ -72,7 +72,7 @@ followed-nothing a =
     all true = refl
     all false = refl
 
-nothing-followed : (xs : List Page) (a : Outcome) → followed (nothing xs) a ≡ a
+pub nothing-followed : (xs : List Page) (a : Outcome) → followed (nothing xs) a ≡ a
 nothing-followed xs a = ap (λ (n : ℕ). record { fits = a .fits; count = n; pages = a .pages }) (zero-add (a .count))
 
 -- The program's answer to that.
@@ -141,13 +141,3 @@ four-parts k r a b c m xs ea eb ec em =
     ∙ next-part c k (r .pageC) r p4 o2
     ∙ next-part m k 0 r [] o3
     ∙ followed-nothing o4))
-
--- ---- a log's records
-
--- What is left, after c changes that were applied.
-abbrev pub after : ℕ → Outcome → Outcome
-after c o = record { fits = o .fits; count = c + o .count; pages = o .pages }
-
-pub record-first : (k : ℕ) (r : Rec) (l : List Rec) (xs : List Page) → whole k (r ∷ l) xs ≡ followed (one-record k r xs) (whole (suc k) l (redo-record k r xs))
-unfolding replay redo-count redo-fits redo-record
-record-first k r l xs = refl

@@ -4,8 +4,7 @@ use Prim.Native.Nat.{ℕ, _<_, _≤_}
 use mathlib.Core.Bool.{Bool, true, false}
 use mathlib.Core.List.{List}
 use lib.ListN.{set}
-use lib.Dec.{ltb}
-use Rattle.base.specs.Tests.{pick, lt-true, lt-false}
+use Rattle.base.specs.Tests.{lt-true, lt-false}
 use Rattle.layout.specs.Pages.{Page, at}
 use Rattle.layout.specs.Records.{Rec}
 use Rattle.model.specs.Change.{act}

@@ -1,9 +1,9 @@
 -- A slot of a log area, and the record that the program reads from it.
-use mathlib.Core.Path.{_≡_, refl, ap, sym, _∙_, subst}
-use Prim.Native.Nat.{ℕ, zero, suc, _+_, _*_, _<_, _≤_}
+use mathlib.Core.Path.{_≡_, ap, sym, _∙_}
+use Prim.Native.Nat.{ℕ, _*_, _<_, _≤_}
 use native.Mathlib.Omega.{arith}
 use mathlib.Core.Bool.{Bool, true, false}
-use mathlib.Core.List.{List, [], _∷_}
+use mathlib.Core.List.{List}
 use lib.ListN.{length, getD}
 use Rattle.base.specs.Tests.{clash}
 use Rattle.layout.specs.declared.Entry.{Entry}
@@ -13,8 +13,7 @@ use Rattle.layout.specs.RecordBytes.{Slot, empty, full, other, slot-size, read-
 use Rattle.bytes.specs.Words.{part}
 use Rattle.bytes.specs.Pieces.{read-all-at, read-all-past}
 use Rattle.bytes.specs.Tables.{tab-length}
-use Rattle.slot.specs.declared.Header.{Header}
-use Rattle.slot.specs.declared.Header.the-variants.{Full, Empty, Broken}
+use Rattle.slot.specs.declared.Header.the-variants.{Full}
 use Rattle.slot.specs.Typed.{rec-of, typed-by}
 use Rattle.slot.specs.Areas.{slots-of}
 use Rattle.change.specs.declared.Record.{Record}

@@ -14,11 +14,13 @@ ghost use mathlib.Core.List.{List};
 ghost use Prim.Native.Nat.{_+_, _*_, _≤_};
 ghost use lib.ListN.{length};
 ghost use Rattle.layout.specs.Pages as layout;
+ghost use Rattle.layout.specs.Records.{Rec};
 ghost use Rattle.change.specs.Pages.{rec};
 ghost use Rattle.redo.specs.Pages.{Pages};
 ghost use Rattle.redo.specs.Records.{Keeps};
+ghost use Rattle.replay.specs.Logs.{Logged};
 ghost use Rattle.replay.specs.Slots.{Tells};
-ghost use Rattle.replay.specs.Outcomes.{Outcome, Answers, pair, part, followed, one-record};
+ghost use Rattle.replay.specs.Outcomes.{Outcome, Answers, pair, part, followed, one-record, whole};
 
 // Whether every change that was reached fits its page, and how many of them were applied.
 pub struct Redone {
@@ -169,4 +171,23 @@ pub fn redo_places(pages: &mut [u8], n: usize, r: Record, k: u32) -> Redone
     let b = redo_part(pages, n, r, k, bits / 4 % 2 == 1, r.b, a);
     let c = redo_part(pages, n, r, k, bits / 2 % 2 == 1, r.c, b);
     redo_part(pages, n, r, k, bits % 2 == 1, 0, c)
+}
+
+// The first `logged` records of a log, each at its pages, up to the first that does not fit.
+pub fn redo_log(pages: &mut [u8], log: &[u8], n: usize, m: usize, logged: u32) -> Redone
+    requires { ⌜ (length (now pages) ≡ 128 * n) × (n ≤ 896) × (length (now log) ≡ 144 * m) × (m ≤ 16384) × (logged ≤ m) ⌝ }
+    ensures { λ d. ⌜ (d .count ≤ 4 * logged) × ((xs : List layout.Page) (l : List Rec) → Pages n (now (pages .entry)) xs → Logged m (now (log .entry)) l → length l ≡ logged → Answers n (now (pages .exit)) d (whole 1 l xs)) ⌝ }
+{
+    let mut count: u32 = 0;
+    let mut i: u32 = 0;
+    while i < logged {
+        let r = record_at(log, m, i as usize);
+        let d = redo_places(pages, n, r, i + 1);
+        if !d.fits {
+            return d;
+        }
+        count = count + d.count;
+        i = i + 1;
+    }
+    Redone { fits: true, count }
 }
