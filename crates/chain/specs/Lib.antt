@@ -3,3 +3,9 @@ pub mod Batches
 pub mod Holding
 pub mod Reading
 pub mod Lines
+pub mod Eights
+pub mod Shown
+pub mod Steps
+pub mod Families
+pub mod Ends
+pub mod Undos

@@ -54,6 +54,6 @@ line-read m b n i s k key value previous under ek ey ev ep t l x xs e h p =
     let values : value ≡ x .value = ev ∙ second-read m b l e i d ∙ ap (λ (j : ℕ). record-at l j .second) q ∙ w .value in
     let back : previous ≡ record-at l (x .number) .previous = ep ∙ previous-read m b l e i d ∙ ap (λ (j : ℕ). record-at l j .previous) q in
     let under-is : under ≡ model.next-undo xs =
-        t l e (omega (arith, back, w .back, w .within)) ∙ ap (pending-after l) back ∙ leads l x xs h in
+    t l e (omega (arith, back, w .back, w .within)) ∙ ap (pending-after l) back ∙ leads l x xs h in
     let all : record { number = n; adds = eqb k 2; key = key; value = value; below = under } ≡ shown-line x xs = cc in
     all

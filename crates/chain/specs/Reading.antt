@@ -142,7 +142,7 @@ module _ (m : ℕ) (b : List ℕ) (p i : ℕ) (n : p ≡ suc i) where
   unfolding pending-after
   after-kind k l e h w =
       let v : kind-of k ≡ record-at l p .kind =
-          ap kind-of (w ∙ kind-read m b l e i (omega arith) ∙ ap (λ (j : ℕ). kind-number (record-at l j .kind)) (sym n)) ∙ kind-back (record-at l p .kind) in
+      ap kind-of (w ∙ kind-read m b l e i (omega arith) ∙ ap (λ (j : ℕ). kind-number (record-at l j .kind)) (sym n)) ∙ kind-back (record-at l p .kind) in
       ap (λ (x : Kind). pending-by x p (record-at l p)) (sym v)
 
   module _ (k : ℕ) (w : k ≡ be32 b (slot-size * i) / 268435456) where

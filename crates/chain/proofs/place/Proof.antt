@@ -1,0 +1,19 @@
+use borrow.Author.Needs.{needs}
+use Rattle.chain.proofs.place.Statement.{statement}
+use Rattle.chain.proofs.place.Tie as tie
+use mathlib.Core.Path.{_∙_, sym}
+use Rattle.chain.specs.Steps.{place-zero, place-row}
+
+returns : tie.Need-returns
+returns c = let a = c .before .args in (search needs, place-zero (a .j) (a .batch) (c .if1 .taken))
+
+row-place-requires : tie.Need-row-place-requires
+row-place-requires c κs = search needs
+
+returns-2 : tie.Need-returns-2
+returns-2 c =
+    let a = c .before .before .before .args in
+    (c .row-place .ensures .1, place-row (a .j) (a .batch) _ (c .before .before .if1 .left) (c .row-place .ensures .0))
+
+pub place-spec : {M : Type 1} → statement M
+place-spec = tie.close (tie.spec returns row-place-requires returns-2)

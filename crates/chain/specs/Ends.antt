@@ -1,0 +1,134 @@
+-- A commit, an abort mark, an end, and the records that no batch has: what the program makes of each.
+use Prim.Native.Nat.{ℕ, zero, suc, _+_, _-_, _≤_, _<_}
+use mathlib.Core.Path.{_≡_, refl, sym, ap, ap₂, _∙_, subst}
+use mathlib.Core.Option.{Option, none, some}
+use mathlib.Core.Bool.{Bool, true, false, not, _&&_}
+use mathlib.Core.List.{List, [], _∷_, _++_, map}
+use native.Mathlib.Omega.{arith}
+use lib.ListN.{length, getD, set}
+use lib.Dec.{eqb, leb}
+use Rattle.base.specs.Tests.{clash, eq-true, neq-false}
+use Rattle.layout.specs.declared.Row.{Row}
+use Rattle.layout.specs.declared.Desk.{Desk}
+use Rattle.layout.specs.Numbers.{tab}
+use Rattle.layout.specs.Desks.{no-row, row-at}
+use Rattle.layout.specs.Records.{Rec, Kind, kind-of, commit, abort-mark, end}
+use Rattle.model.specs.Batches.{Batch, find-batch, change-batch, drop-batch, next-undo, row-of, mark-set, tell, follows, nothing-pending, chains, chain-step}
+use Rattle.bytes.specs.Ranges.{Run, in-run}
+use Rattle.desk.specs.Rows.{without}
+use Rattle.chain.specs.declared.Judged.{Judged}
+use Rattle.chain.specs.declared.Told.{Told}
+use Rattle.chain.specs.Holding.{Holds}
+use Rattle.chain.specs.Eights.{closing}
+use Rattle.chain.specs.Shown.{right-with, Shows, Found, Placed, found, absent}
+use Rattle.chain.specs.Steps.{Tells, Stepped, Steps, Places, GoesOn, row-there, shows-mark, shows-gone, found-as, none-as}
+use Rattle.chain.specs.Families.{stepped-ok, stepped-off, unchained, change-few, drop-few, ends-ask, goes-through}
+
+-- A row whose batch has its abort mark from record n on.
+abbrev pub marked-row : Row → ℕ → Row
+marked-row y n = record { batch = y .batch; last = n; undo = y .undo; pending = y .pending }
+
+module _ (j : Judged) (t : Told) (p : ℕ) (g : GoesOn j t p) (z : p ≡ 8 → ⊥) where
+  pub commits : t .kind ≡ 6 → (d : Desk) (ms : List Bool) → d .rows ≡ without (j .desk .rows) p → ms ≡ tab 8 (closing false (j .marked) p)
+      → Steps j t (right-with d ms)
+  unfolding tell kind-of
+  commits k d ms v vm =
+      goes-through j t p (ends-ask (t .kind) (omega arith) (omega arith)) g z (right-with d ms) refl
+      (λ log bs x h s w l f.
+      rw k (drop-few (x .batch) bs p f (h .few), shows-gone j (x .batch) p bs s f l (h .few) d ms v vm))
+
+  pub marks : t .kind ≡ 7 → (d : Desk) (ms : List Bool) → d .rows ≡ set (j .desk .rows) p (marked-row (row-at (j .desk .rows) p) (t .own))
+      → ms ≡ set (j .marked) p true → Steps j t (right-with d ms)
+  unfolding tell kind-of mark-set row-of
+  marks k d ms v vm =
+      goes-through j t p (ends-ask (t .kind) (omega arith) (omega arith)) g z (right-with d ms) refl
+      (λ log bs x h s w l f.
+      let y : marked-row (row-at (j .desk .rows) p) (t .own) ≡ row-of (mark-set (t .own) (f .batch)) =
+      ap (λ (c : Row). marked-row c (t .own)) (row-there j (x .batch) p bs s f l (h .few)) in
+      rw k (
+        change-few (x .batch) bs p f (h .few) (mark-set (t .own)),
+        shows-mark j (x .batch) p bs s f l (h .few) (mark-set (t .own)) refl d ms (v ∙ ap (set (j .desk .rows) p) y) vm,
+      ))
+
+-- ---- the end of a batch, test by test
+
+ends : Rec → List Batch → Bool
+ends x bs = nothing-pending (find-batch (x .batch) bs) && follows x (find-batch (x .batch) bs)
+
+ends-none : (x : Rec) (bs : List Batch) → find-batch (x .batch) bs ≡ none → ends x bs ≡ false
+unfolding ends nothing-pending follows
+ends-none x bs e = rw e
+
+ends-some : (x : Rec) (bs : List Batch) (b : Batch) → find-batch (x .batch) bs ≡ some b → ends x bs ≡ eqb (length (b .lines)) 0 && eqb (x .previous) (b .last)
+unfolding ends nothing-pending follows
+ends-some x bs b e = rw e
+
+module _ (j : Judged) (t : Told) (k : t .kind ≡ 8) (p : ℕ) (g : Places j (t .batch) p) where
+  is-end : (x : Rec) → Tells t x → x .kind ≡ end
+  unfolding kind-of
+  is-end x w = sym (w .kind) ∙ ap kind-of k
+
+  ends-off : (r : Judged) → r .ok ≡ false
+      → ((log : List Rec) (bs : List Batch) (x : Rec) → Holds log bs → Shows bs j → Tells t x → p < 8 → Found (x .batch) bs p → ends x bs ≡ false) → Steps j t r
+  unfolding chains ends
+  ends-off r o v log bs x h s w n = go (g log bs h s)
+    where
+      off : ends x bs ≡ false → Stepped (chain-step (t .own) x bs) (tell (x .kind) (t .own) x bs) r
+      off e = stepped-off (t .own) x bs (tell (x .kind) (t .own) x bs) r (unchained (t .own) x bs end (is-end x w) e) o
+
+      go : Placed (t .batch) bs p 8 → Stepped (chain-step (t .own) x bs) (tell (x .kind) (t .own) x bs) r
+      go (absent q e) = off (ends-none x bs (none-as j t p g x bs w e))
+      go (found l f) = off (v log bs x h s w l (found-as j t p g x bs w f))
+
+  pub end-nowhere : (r : Judged) → p ≡ 8 → r .ok ≡ false → Steps j t r
+  end-nowhere r z o = ends-off r o (λ log bs x h s w l f. absurd (omega arith))
+
+  pub end-pending : (r : Judged) → (row-at (j .desk .rows) p .pending ≡ 0 → ⊥) → r .ok ≡ false → Steps j t r
+  unfolding row-of
+  end-pending r z o =
+      ends-off r o
+      (λ log bs x h s w l f.
+      let e : row-at (j .desk .rows) p .pending ≡ length (f .batch .lines) = ap (λ (c : Row). c .pending) (row-there j (x .batch) p bs s f l (h .few)) in
+      ends-some x bs (f .batch) (f .is) ∙ rw (neq-false (λ (y : length (f .batch .lines) ≡ 0). z (e ∙ y))))
+
+  pub end-elsewhere : (r : Judged) → (row-at (j .desk .rows) p .last ≡ t .previous → ⊥) → r .ok ≡ false → Steps j t r
+  unfolding row-of
+  end-elsewhere r z o =
+      ends-off r o
+      (λ log bs x h s w l f.
+      let e : row-at (j .desk .rows) p .last ≡ f .batch .last = ap (λ (c : Row). c .last) (row-there j (x .batch) p bs s f l (h .few)) in
+      ends-some x bs (f .batch) (f .is)
+      ∙ ap (λ (b : Bool). eqb (length (f .batch .lines)) 0 && b) (neq-false (λ (y : x .previous ≡ f .batch .last). z (e ∙ sym y ∙ sym (w .previous))))
+      ∙ and-no (eqb (length (f .batch .lines)) 0))
+    where
+      and-no : (a : Bool) → a && false ≡ false
+      and-no true = refl
+      and-no false = refl
+
+  pub ended : (p ≡ 8 → ⊥) → row-at (j .desk .rows) p .pending ≡ 0 → row-at (j .desk .rows) p .last ≡ t .previous → (d : Desk) (ms : List Bool)
+      → d .rows ≡ without (j .desk .rows) p → ms ≡ tab 8 (closing false (j .marked) p) → Steps j t (right-with d ms)
+  unfolding row-of tell chains ends
+  ended z e q d ms v vm log bs x h s w n = go (g log bs h s)
+    where
+      go : Placed (t .batch) bs p 8 → Stepped (chain-step (t .own) x bs) (tell (x .kind) (t .own) x bs) (right-with d ms)
+      go (absent y _) = absurd (z y)
+      go (found l y) =
+          let f : Found (x .batch) bs p = found-as j t p g x bs w y in
+          let i : length (f .batch .lines) ≡ 0 = sym (ap (λ (c : Row). c .pending) (row-there j (x .batch) p bs s f l (h .few))) ∙ e in
+          let m : x .previous ≡ f .batch .last = sym (w .previous) ∙ sym q ∙ ap (λ (c : Row). c .last) (row-there j (x .batch) p bs s f l (h .few)) in
+          stepped-ok (t .own) x bs (right-with d ms) end (is-end x w)
+          (ends-some x bs (f .batch) (f .is) ∙ rw (eq-true (length (f .batch .lines)) 0 i, eq-true (x .previous) (f .batch .last) m))
+          (drop-few (x .batch) bs p f (h .few)) refl (shows-gone j (x .batch) p bs s f l (h .few) d ms v vm)
+
+-- ---- kinds 9 to 15
+
+pub passes : (j : Judged) (t : Told) → 9 ≤ t .kind → t .kind < 16 → Steps j t (right-with (j .desk) (j .marked))
+unfolding Run tell chains kind-of
+passes j t a b log bs x h s w n =
+    let c : chains (kind-of (t .kind)) x (find-batch (x .batch) bs) ≡ true =
+    in-run (λ (k : ℕ). chains (kind-of k) x (find-batch (x .batch) bs) ≡ true) 7 9 (t .kind) (refl, (refl, (refl, (refl, (refl, (refl, (refl, tt))))))) a b in
+    let e : tell (kind-of (t .kind)) (t .own) x bs ≡ bs =
+    in-run (λ (k : ℕ). tell (kind-of k) (t .own) x bs ≡ bs) 7 9 (t .kind) (refl, (refl, (refl, (refl, (refl, (refl, (refl, tt))))))) a b in
+    stepped-ok (t .own) x bs (right-with (j .desk) (j .marked)) (kind-of (t .kind)) (sym (w .kind)) c
+    (subst (λ (y : List Batch). length y ≤ 8) (sym e) (h .few)) refl
+    (subst (λ (y : List Batch). Shows y (right-with (j .desk) (j .marked))) (sym e) (record { rows = s .rows; marks = s .marks }))

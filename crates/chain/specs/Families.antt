@@ -1,0 +1,182 @@
+-- A record's family of kinds, as the program goes by it: begin; insert and delete; commit; abort mark; end; and those that no batch has.
+use Prim.Native.Nat.{ℕ, zero, suc, _+_, _-_, _≤_, _<_}
+use mathlib.Core.Path.{_≡_, refl, sym, ap, ap₂, _∙_, subst}
+use mathlib.Core.Option.{Option, none, some}
+use mathlib.Core.Bool.{Bool, true, false, not, _&&_}
+use mathlib.Core.List.{List, [], _∷_, _++_, map}
+use native.Mathlib.Omega.{arith}
+use lib.ListN.{length, getD, set, length-append, length-map}
+use lib.Dec.{eqb, leb}
+use Rattle.base.specs.Tests.{clash, le-true, le-false, eq-true, neq-false}
+use Rattle.layout.specs.declared.Row.{Row}
+use Rattle.layout.specs.declared.Desk.{Desk}
+use Rattle.layout.specs.Numbers.{tab}
+use Rattle.layout.specs.Desks.{no-row, row-at, eight-rows, most-open}
+use Rattle.layout.specs.Records.{Rec, Kind, kind-of, begin, insert, delete, commit, abort-mark, end}
+use Rattle.model.specs.Batches.{Line, Batch, find-batch, change-batch, drop-batch, next-undo, row-of, written, mark-set, tell, unmarked, follows, nothing-pending, chains, chain-step}
+use Rattle.bytes.specs.Pieces.{All}
+use Rattle.bytes.specs.Ranges.{Run, in-run}
+use Rattle.desk.specs.Rows.{place-of, without, used-count, eight-rows-add, new-row}
+use Rattle.chain.specs.declared.Judged.{Judged}
+use Rattle.chain.specs.declared.Told.{Told}
+use Rattle.chain.specs.Holding.{Sits, Holds}
+use Rattle.chain.specs.Eights.{eight, closing, eight-same}
+use Rattle.chain.specs.Shown.{right-with, Shows, Found, Placed, found, absent, marks-of, map-append}
+use Rattle.chain.specs.Steps.{Tells, Stepped, Steps, Places, Onward, onward, halted, GoesOn, goes, row-there, shows-row, shows-mark, shows-gone}
+
+-- The rows' counts are small enough to add to.
+abbrev pub Low : Judged → Type 0
+Low j = (i : ℕ) → row-at (j .desk .rows) i .pending ≤ 16384
+
+-- A step from its parts: the chain's own test, and eight batches at most.
+pub stepped-ok : (n : ℕ) (x : Rec) (bs : List Batch) (r : Judged) (k : Kind) → x .kind ≡ k → chains k x (find-batch (x .batch) bs) ≡ true → length (tell k n x bs) ≤ 8
+    → r .ok ≡ true → Shows (tell k n x bs) r → Stepped (chain-step n x bs) (tell (x .kind) n x bs) r
+unfolding chain-step
+stepped-ok n x bs r k e c l o s =
+    let a : chains (x .kind) x (find-batch (x .batch) bs) ≡ true = ap (λ (y : Kind). chains y x (find-batch (x .batch) bs)) e ∙ c in
+    let b : leb (length (tell (x .kind) n x bs)) most-open ≡ true = ap (λ (y : Kind). leb (length (tell y n x bs)) most-open) e ∙ le-true (length (tell k n x bs)) 8 l in
+    record { ok = o ∙ sym (rw (a, b)); shows = λ _. subst (λ (y : Kind). Shows (tell y n x bs) r) (sym e) s }
+
+pub stepped-off : (n : ℕ) (x : Rec) (bs cs : List Batch) (r : Judged) → chain-step n x bs ≡ false → r .ok ≡ false → Stepped (chain-step n x bs) cs r
+stepped-off n x bs cs r c o = record { ok = o ∙ sym c; shows = λ e. clash (sym e ∙ c) }
+
+pub unchained : (n : ℕ) (x : Rec) (bs : List Batch) (k : Kind) → x .kind ≡ k → chains k x (find-batch (x .batch) bs) ≡ false → chain-step n x bs ≡ false
+unfolding chain-step
+unchained n x bs k e c =
+    let a : chains (x .kind) x (find-batch (x .batch) bs) ≡ false = ap (λ (y : Kind). chains y x (find-batch (x .batch) bs)) e ∙ c in
+    rw a
+
+-- The number of batches that a change or a drop leaves.
+module _ (n : ℕ) (bs : List Batch) (p : ℕ) (f : Found n bs p) (h : length bs ≤ 8) where
+  size : length (f .before) + suc (length (f .after)) ≡ length bs
+  size = sym (length-append (f .before) (f .batch ∷ f .after)) ∙ sym (ap (λ (x : List Batch). length x) (f .split))
+
+  pub change-few : (c : Batch → Batch) → length (change-batch n c bs) ≤ 8
+  change-few c = omega (arith, size, h, ap (λ (x : List Batch). length x) (f .change c), length-append (f .before) (c (f .batch) ∷ f .after))
+
+  pub drop-few : length (drop-batch n bs) ≤ 8
+  drop-few = omega (arith, size, h, ap (λ (x : List Batch). length x) (f .gone), length-append (f .before) (f .after))
+
+-- ---- begin
+
+no-zero : (log : List Rec) (bs : List Batch) → All (Sits log) bs → (i : ℕ) → i < length (map row-of bs) → row-at (map row-of bs) i .batch ≡ 0 → ⊥
+unfolding All row-of
+no-zero log [] h i l e = omega arith
+no-zero log (b ∷ bs) h zero l e = omega (arith, e, h .0 .from-one)
+no-zero log (b ∷ bs) h (suc i) l e = no-zero log bs (h .1) i (omega arith) e
+
+rows-used : (j : Judged) (log : List Rec) (bs : List Batch) → Holds log bs → Shows bs j → place-of 0 (j .desk .rows) ≡ length bs
+rows-used j log bs h s =
+    ap (place-of 0) (s .rows) ∙ used-count (map row-of bs) (omega (arith, length-map bs row-of, h .few)) (no-zero log bs (h .sits)) ∙ length-map bs row-of
+
+fresh-row : (n : ℕ) → row-of (record { number = n; last = n; marked = false; lines = [] }) ≡ new-row n
+unfolding row-of next-undo
+fresh-row n = refl
+
+nine : (m : ℕ) (x : Rec) (bs : List Batch) → x .kind ≡ begin → length bs ≡ 8 → chain-step m x bs ≡ false
+unfolding chain-step chains tell
+nine m x bs b l =
+    let c : leb (length (bs ++ record { number = m; last = m; marked = false; lines = [] } ∷ [])) 8 ≡ false =
+    le-false (length (bs ++ record { number = m; last = m; marked = false; lines = [] } ∷ [])) 8
+    (omega (arith, l, length-append bs (record { number = m; last = m; marked = false; lines = [] } ∷ []))) in
+    ap (λ (y : Kind). chains y x (find-batch (x .batch) bs) && leb (length (tell y m x bs)) 8) b ∙ c
+
+module _ (j : Judged) (t : Told) (k : t .kind ≡ 1) (u : ℕ) (e : u ≡ place-of 0 (j .desk .rows)) where
+  begins : (x : Rec) → Tells t x → x .kind ≡ begin
+  unfolding kind-of
+  begins x w = sym (w .kind) ∙ ap kind-of k
+
+  pub begun-full : (r : Judged) → u ≡ 8 → r .ok ≡ false → Steps j t r
+  begun-full r z o log bs x h s w n =
+      stepped-off (t .own) x bs (tell (x .kind) (t .own) x bs) r (nine (t .own) x bs (begins x w) (omega (arith, rows-used j log bs h s, e, z))) o
+
+  pub begun-row : (d : Desk) → u ≤ 8 → (u ≡ 8 → ⊥) → d .rows ≡ set (j .desk .rows) (place-of 0 (j .desk .rows)) (new-row (t .own))
+      → Steps j t (right-with d (j .marked))
+  unfolding tell chains
+  begun-row d q z v log bs x h s w n =
+      let l : length bs < 8 = omega (arith, rows-used j log bs h s, e, q, z) in
+      let b : Batch = record { number = t .own; last = t .own; marked = false; lines = [] } in
+      stepped-ok (t .own) x bs (right-with d (j .marked)) begin (begins x w) refl
+      (omega (arith, l, length-append bs (b ∷ []))) refl
+      (record {
+        rows =
+            v ∙ ap₂ (λ (y : List Row) (m : ℕ). set y m (new-row (t .own))) (s .rows) (rows-used j log bs h s ∙ sym (length-map bs row-of))
+            ∙ sym (ap eight-rows (map-append row-of bs (b ∷ []) ∙ ap (λ (y : Row). map row-of bs ++ y ∷ []) (fresh-row (t .own)))
+            ∙ eight-rows-add (map row-of bs) (new-row (t .own)) (omega (arith, l, length-map bs row-of)));
+        marks = s .marks ∙ sym (ap (eight false) (map-append (λ c. c .marked) bs (b ∷ [])) ∙ eight-same false (marks-of bs));
+      })
+
+-- ---- records that a batch goes on with
+
+-- 2, 3, 6 and 7 ask the same of their batch.
+abbrev Asks : ℕ → Type 0
+Asks k = (x : Rec) (bs : List Batch) → chains (kind-of k) x (find-batch (x .batch) bs) ≡ goes x bs
+
+pub updates-ask : (k : ℕ) → 2 ≤ k → k ≤ 3 → Asks k
+unfolding Run chains kind-of
+updates-ask k a b = in-run Asks 2 2 k ((λ x bs. refl), ((λ x bs. refl), tt)) a (omega arith)
+
+pub ends-ask : (k : ℕ) → 6 ≤ k → k ≤ 7 → Asks k
+unfolding Run chains kind-of
+ends-ask k a b = in-run Asks 2 6 k ((λ x bs. refl), ((λ x bs. refl), tt)) a (omega arith)
+
+module _ (j : Judged) (t : Told) (p : ℕ) (a : Asks (t .kind)) (g : GoesOn j t p) where
+  pub halts : (r : Judged) → p ≡ 8 → r .ok ≡ false → Steps j t r
+  halts r z o log bs x h s w n = go (g log bs x h s w)
+    where
+      go : Onward x bs p → Stepped (chain-step (t .own) x bs) (tell (x .kind) (t .own) x bs) r
+      go (onward l f e) = absurd (omega arith)
+      go (halted q e) =
+          stepped-off (t .own) x bs (tell (x .kind) (t .own) x bs) r
+          (unchained (t .own) x bs (kind-of (t .kind)) (sym (w .kind)) (a x bs ∙ e)) o
+
+  -- A batch that goes on: changed as the record's kind says, or gone.
+  module _ (z : p ≡ 8 → ⊥) (r : Judged) (o : r .ok ≡ true) where
+    pub goes-through : ((log : List Rec) (bs : List Batch) (x : Rec) → Holds log bs → Shows bs j → Tells t x → p < 8 → Found (x .batch) bs p
+        → (length (tell (kind-of (t .kind)) (t .own) x bs) ≤ 8) × Shows (tell (kind-of (t .kind)) (t .own) x bs) r) → Steps j t r
+    goes-through v log bs x h s w n = go (g log bs x h s w)
+      where
+        go : Onward x bs p → Stepped (chain-step (t .own) x bs) (tell (x .kind) (t .own) x bs) r
+        go (halted q e) = absurd (z q)
+        go (onward l f e) =
+            let q = v log bs x h s w l f in
+            stepped-ok (t .own) x bs r (kind-of (t .kind)) (sym (w .kind)) (a x bs ∙ e) (q .0) o (q .1)
+
+-- What an update's record does to its batch, by the kind's number.
+update : ℕ → ℕ → Rec → Batch → Batch
+update k n x = written n (record { number = n; adds = eqb k 2; key = x .key; value = x .second })
+
+tells-update : (k n : ℕ) (x : Rec) (bs : List Batch) → 2 ≤ k → k ≤ 3 → tell (kind-of k) n x bs ≡ change-batch (x .batch) (update k n x) bs
+unfolding Run tell kind-of update
+tells-update k n x bs a b =
+    in-run (λ (k : ℕ). tell (kind-of k) n x bs ≡ change-batch (x .batch) (update k n x) bs) 2 2 k (refl, (refl, tt)) a (omega arith)
+
+-- A row whose batch has one line more.
+abbrev pub longer-row : Row → ℕ → Row
+longer-row y n = record { batch = y .batch; last = n; undo = n; pending = y .pending + 1 }
+
+update-row : (k n : ℕ) (x : Rec) (b : Batch) → longer-row (row-of b) n ≡ row-of (update k n x b)
+unfolding row-of update written next-undo
+update-row k n x b = ap (λ (c : ℕ). record { batch = b .number; last = n; undo = n; pending = c }) (more (length (b .lines)))
+  where
+    more : (c : ℕ) → c + 1 ≡ suc c
+    more c = omega arith
+
+update-mark : (k n : ℕ) (x : Rec) (b : Batch) → update k n x b .marked ≡ b .marked
+unfolding update written
+update-mark k n x b = refl
+
+module _ (j : Judged) (t : Told) (p : ℕ) (g : GoesOn j t p) (z : p ≡ 8 → ⊥) where
+  pub updates : 2 ≤ t .kind → t .kind ≤ 3 → (d : Desk) → d .rows ≡ set (j .desk .rows) p (longer-row (row-at (j .desk .rows) p) (t .own))
+      → Steps j t (right-with d (j .marked))
+  updates a b d v =
+      goes-through j t p (updates-ask (t .kind) a b) g z (right-with d (j .marked)) refl
+      (λ log bs x h s w l f.
+      let e : tell (kind-of (t .kind)) (t .own) x bs ≡ change-batch (x .batch) (update (t .kind) (t .own) x) bs = tells-update (t .kind) (t .own) x bs a b in
+      let y : longer-row (row-at (j .desk .rows) p) (t .own) ≡ row-of (update (t .kind) (t .own) x (f .batch)) =
+      ap (λ (c : Row). longer-row c (t .own)) (row-there j (x .batch) p bs s f l (h .few)) ∙ update-row (t .kind) (t .own) x (f .batch) in
+      rw e (
+        change-few (x .batch) bs p f (h .few) (update (t .kind) (t .own) x),
+        shows-row j (x .batch) p bs s f l (h .few) (update (t .kind) (t .own) x) (update-mark (t .kind) (t .own) x (f .batch)) d
+            (v ∙ ap (set (j .desk .rows) p) y),
+      ))
