@@ -9,3 +9,4 @@ pub mod Steps
 pub mod Families
 pub mod Ends
 pub mod Undos
+pub mod Turns

@@ -6,6 +6,11 @@ use desk::row_place;
 use desk::used_rows;
 use layout::Desk;
 use layout::Row;
+use row::pages_ok;
+use row::row_ok;
+use slot::Header;
+use slot::kind_number;
+use slot::read_at;
 ghost use mathlib.Core.Path.{_≡_};
 ghost use mathlib.Core.Bool.{true, false};
 ghost use Prim.Native.Nat.{_+_, _*_, _≤_, _<_};
@@ -19,6 +24,7 @@ ghost use Rattle.chain.specs.Shown.{right-with};
 ghost use Rattle.chain.specs.Steps.{Places, GoesOn, Steps};
 ghost use Rattle.chain.specs.Families.{Low};
 ghost use Rattle.chain.specs.Undos.{StepsIn, line-undone};
+ghost use Rattle.chain.specs.Turns.{Turns};
 
 // A pending update, and the number of the one below it in its batch.
 pub struct Line {
@@ -329,4 +335,78 @@ fn undone(log: &[u8], m: usize, j: Judged, t: Told) -> Judged
         pending: row.pending - 1,
     };
     changed(j, i, new)
+}
+
+// 9 to 15: no batch has them.
+fn passed(j: Judged) -> Judged
+    ensures { λ r. ⌜ r ≡ right-with (j .desk) (j .marked) ⌝ }
+{
+    let desk = j.desk;
+    let marked = j.marked;
+    Judged {
+        ok: true,
+        desk,
+        marked,
+    }
+}
+
+// One record of the batch chain.
+fn step(log: &[u8], m: usize, j: Judged, t: Told) -> Judged
+    requires { ⌜ (length (now log) ≡ 144 * m) × (m ≤ 16384) × (0 < t .kind) × (t .kind < 16) × Low j ⌝ }
+    ensures { λ r. ⌜ StepsIn m (now (log .entry)) j t r ⌝ }
+{
+    let kind = t.kind;
+    match kind {
+        1 => begun(j, t),
+        2..=3 => updated(j, t),
+        4..=5 => undone(log, m, j, t),
+        6 => committed(j, t),
+        7 => abort_marked(j, t),
+        8 => ended(j, t),
+        _ => passed(j),
+    }
+}
+
+// Slot i of a register of n pages: "a slot breaks its row, number or batch chain, or names an A, B or C not below the page count".
+fn judge_slot(log: &[u8], m: usize, n: usize, i: usize, j: Judged) -> Judged
+    requires { ⌜ (length (now log) ≡ 144 * m) × (m ≤ 16384) × (i < m) × Low j ⌝ }
+    ensures { λ r. ⌜ Turns n m (now (log .entry)) i j r ⌝ }
+{
+    let s = read_at(log, 144 * i);
+    let header = s.header;
+    let Header::Full {
+        kind,
+        count: _,
+        level: _,
+        own,
+        batch,
+        previous,
+        a: _,
+        b: _,
+        c: _,
+        key,
+        second,
+        right: _,
+    } = header
+    else {
+        return refused(j);
+    };
+    if own as usize != i + 1 {
+        return refused(j);
+    }
+    if !row_ok(s) {
+        return refused(j);
+    }
+    if !pages_ok(s, n) {
+        return refused(j);
+    }
+    let t = Told {
+        kind: kind_number(kind),
+        own,
+        batch,
+        previous,
+        key,
+        second,
+    };
+    step(log, m, j, t)
 }

@@ -1,0 +1,90 @@
+-- One slot of the log, judged: its number, its row, its pages, and its record's step.
+use Prim.Native.Nat.{ℕ, zero, suc, _+_, _*_, _≤_, _<_}
+use mathlib.Core.Path.{_≡_, refl, sym, ap, _∙_, subst}
+use mathlib.Core.Bool.{Bool, true, false, _&&_}
+use mathlib.Core.List.{List, [], _∷_, _++_}
+use native.Mathlib.Omega.{arith}
+use lib.ListN.{length}
+use lib.Dec.{eqb}
+use Rattle.base.specs.Tests.{clash, eq-true, neq-false}
+use Rattle.layout.specs.declared.Entry.{Entry}
+use Rattle.layout.specs.Records.{Rec, Kind, kind-of, kind-number}
+use Rattle.layout.specs.RecordBytes.{Slot, empty, full, other, slot-size, read-slot}
+use Rattle.layout.specs.Rows.{row, names-pages}
+use Rattle.model.specs.Batches.{Batch, tell, chain-step}
+use Rattle.bytes.specs.Words.{part}
+use Rattle.slot.specs.declared.Header.{Header}
+use Rattle.slot.specs.declared.Header.the-variants.{Full, Empty, Broken}
+use Rattle.slot.specs.Typed.{rec-of, typed-by}
+use Rattle.slot.specs.Codec.{kind-back}
+use Rattle.row.specs.Kept.{row-kept, pages-kept, row-kept-full, pages-kept-full}
+use Rattle.chain.specs.declared.Judged.{Judged}
+use Rattle.chain.specs.declared.Told.{Told}
+use Rattle.chain.specs.Holding.{Holds}
+use Rattle.chain.specs.Reading.{Reads}
+use Rattle.chain.specs.Shown.{Shows}
+use Rattle.chain.specs.Steps.{Tells, Stepped}
+use Rattle.chain.specs.Undos.{StepsIn}
+
+-- What a slot that should hold record k of a register of n pages makes of the batches.
+unfoldable pub Turned : ℕ → ℕ → Slot → List Batch → Judged → Type 0
+Turned n k empty bs r = r .ok ≡ false
+Turned n k (full own x) bs r = Stepped (eqb own k && (row k x && (names-pages n x && chain-step k x bs))) (tell (x .kind) k x bs) r
+Turned n k (other b) bs r = r .ok ≡ false
+
+-- Slot i, whatever log it is that the slots before it hold and that j shows.
+abbrev pub Turns : ℕ → ℕ → List ℕ → ℕ → Judged → Judged → Type 0
+Turns n m b i j r = (log : List Rec) (bs : List Batch) → Reads m b log → length log ≡ i → Holds log bs → Shows bs j
+    → Turned n (suc i) (read-slot (part b (slot-size * i) slot-size)) bs r
+
+off : (c : Bool) (bs : List Batch) (r : Judged) → c ≡ false → r .ok ≡ false → Stepped c bs r
+off c bs r e o = record { ok = o ∙ sym e; shows = λ z. clash (sym z ∙ e) }
+
+pub turned-none : (n k : ℕ) (s : Slot) (bs : List Batch) (r : Judged) → ((own : ℕ) (x : Rec) → s ≡ full own x → ⊥) → r .ok ≡ false → Turned n k s bs r
+unfolding Turned
+turned-none n k empty bs r h o = o
+turned-none n k (full own x) bs r h o = absurd (h own x refl)
+turned-none n k (other b) bs r h o = o
+
+-- A slot that holds a record, test by test, by the program's header and entries.
+module _ (n m : ℕ) (b : List ℕ) (i : ℕ) (j r : Judged) (h : Header) (es : List Entry)
+    (kind count level own batch previous pa pb pc key second right : ℕ)
+    (e : typed-by (part b (slot-size * i) slot-size) h es ≡ read-slot (part b (slot-size * i) slot-size))
+    (q : h ≡ Full kind count level own batch previous pa pb pc key second right) where
+  abbrev x : Rec
+  x = rec-of kind count level batch previous pa pb pc key second right es
+
+  is-full : typed-by (part b (slot-size * i) slot-size) h es ≡ full own x
+  unfolding typed-by
+  is-full = ap (λ (y : Header). typed-by (part b (slot-size * i) slot-size) y es) q
+
+  as-turned : (bs : List Batch) → Stepped (eqb own (suc i) && (row (suc i) x && (names-pages n x && chain-step (suc i) x bs))) (tell (x .kind) (suc i) x bs) r
+      → Turned n (suc i) (read-slot (part b (slot-size * i) slot-size)) bs r
+  unfolding Turned
+  as-turned bs s = subst (λ (y : Slot). Turned n (suc i) y bs r) (sym is-full ∙ e) s
+
+  pub other-number : (own ≡ suc i → ⊥) → r .ok ≡ false → Turns n m b i j r
+  other-number z o log bs rd l hd s = as-turned bs (off _ (tell (x .kind) (suc i) x bs) r (rw (neq-false z)) o)
+
+  module _ (z : own ≡ suc i) where
+    row-is : row-kept h es ≡ row (suc i) x
+    row-is = row-kept-full (part b (slot-size * i) slot-size) es own x h is-full ∙ ap (λ (y : ℕ). row y x) z
+
+    pub broken-row : row-kept h es ≡ false → r .ok ≡ false → Turns n m b i j r
+    broken-row w o log bs rd l hd s = as-turned bs (off _ (tell (x .kind) (suc i) x bs) r (rw (eq-true own (suc i) z, sym row-is ∙ w)) o)
+
+    module _ (w : row-kept h es ≡ true) where
+      pages-is : pages-kept n h ≡ names-pages n x
+      pages-is = pages-kept-full (part b (slot-size * i) slot-size) es own x n h is-full
+
+      pub broken-pages : pages-kept n h ≡ false → r .ok ≡ false → Turns n m b i j r
+      broken-pages v o log bs rd l hd s =
+          as-turned bs (off _ (tell (x .kind) (suc i) x bs) r (rw (eq-true own (suc i) z, sym row-is ∙ w, sym pages-is ∙ v)) o)
+
+      pub turned-step : pages-kept n h ≡ true → (k : ℕ) → k ≡ kind-number (kind-of kind)
+          → StepsIn m b j (record { kind = k; own = own; batch = batch; previous = previous; key = key; second = second }) r → Turns n m b i j r
+      turned-step v k ek f log bs rd l hd s =
+          let g = f log bs x rd hd s (record { kind = ap kind-of ek ∙ kind-back (kind-of kind); batch = refl; previous = refl; key = refl; second = refl }) (z ∙ ap suc (sym l)) in
+          let g′ : Stepped (chain-step (suc i) x bs) (tell (x .kind) (suc i) x bs) r =
+          subst (λ (y : ℕ). Stepped (chain-step y x bs) (tell (x .kind) y x bs) r) z g in
+          as-turned bs (subst (λ (c : Bool). Stepped c (tell (x .kind) (suc i) x bs) r) (sym (rw (eq-true own (suc i) z, sym row-is ∙ w, sym pages-is ∙ v))) g′)
