@@ -10,3 +10,5 @@ pub mod Families
 pub mod Ends
 pub mod Undos
 pub mod Turns
+pub mod Rest
+pub mod Judging

@@ -149,3 +149,8 @@ module _ {A : Type 0} (d : A) (g : Batch → A) (n : ℕ) (bs : List Batch) (p :
       ∙ ap (eight d) (map-append g (f .before) (f .after))
       ∙ eight-closed d (map g (f .before)) (map g (f .after)) (g (f .batch)) few
       ∙ ap₂ (λ (x : List A) (k : ℕ). tab 8 (closing d (eight d x) k)) (sym shape) place
+
+-- No batch is open.
+pub shows-none : (j : Judged) → j .desk .rows ≡ replicate 8 no-row → j .marked ≡ replicate 8 false → Shows [] j
+unfolding eight-rows tab
+shows-none j e f = record { rows = e; marks = f }

@@ -1,5 +1,6 @@
 // The log judged in one pass, and the pending updates of its open batches found through it.
 use bytes::get32;
+use bytes::is_zero;
 use desk::closed;
 use desk::opened;
 use desk::row_place;
@@ -13,18 +14,25 @@ use slot::kind_number;
 use slot::read_at;
 ghost use mathlib.Core.Path.{_≡_};
 ghost use mathlib.Core.Bool.{true, false};
+ghost use mathlib.Core.List.{[]};
 ghost use Prim.Native.Nat.{_+_, _*_, _≤_, _<_};
-ghost use lib.ListN.{length, set};
+ghost use lib.ListN.{length, set, drop};
+ghost use Rattle.base.specs.Tests.{every};
+ghost use Rattle.layout.specs.RecordBytes.{read-slot};
+ghost use Rattle.model.specs.Log.{is-empty};
+ghost use Rattle.bytes.specs.Words.{part};
+ghost use Rattle.slot.specs.Areas.{slots-of};
 ghost use Rattle.chain.specs.Reading.{TellsAfter};
 ghost use Rattle.chain.specs.Lines.{TellsLine};
 ghost use Rattle.layout.specs.Numbers.{tab};
 ghost use Rattle.desk.specs.Rows.{without, with-those};
 ghost use Rattle.chain.specs.Eights.{closing};
-ghost use Rattle.chain.specs.Shown.{right-with};
+ghost use Rattle.chain.specs.Shown.{right-with, Shows};
 ghost use Rattle.chain.specs.Steps.{Places, GoesOn, Steps};
 ghost use Rattle.chain.specs.Families.{Low};
 ghost use Rattle.chain.specs.Undos.{StepsIn, line-undone};
 ghost use Rattle.chain.specs.Turns.{Turns};
+ghost use Rattle.chain.specs.Judging.{Judgement};
 
 // A pending update, and the number of the one below it in its batch.
 pub struct Line {
@@ -409,4 +417,70 @@ fn judge_slot(log: &[u8], m: usize, n: usize, i: usize, j: Judged) -> Judged
         second,
     };
     step(log, m, j, t)
+}
+
+fn none_open() -> Judged
+    ensures { λ r. ⌜ Shows [] r ⌝ }
+{
+    let rows = [Row {
+        batch: 0,
+        last: 0,
+        undo: 0,
+        pending: 0,
+    }; 8];
+    let desk = Desk {
+        rows,
+        logged: 0,
+        stored: 0,
+    };
+    let marked = [false; 8];
+    Judged {
+        ok: true,
+        desk,
+        marked,
+    }
+}
+
+fn empty_slot(log: &[u8], m: usize, i: usize) -> bool
+    requires { ⌜ (length (now log) ≡ 144 * m) × (m ≤ 16384) × (i < m) ⌝ }
+    ensures { λ r. ⌜ r ≡ is-empty (read-slot (part (now (log .entry)) (144 * i) 144)) ⌝ }
+{
+    is_zero(&log[144 * i..144 * i + 144])
+}
+
+// The records end before slot i: no full slot follows an empty one.
+fn finished(log: &[u8], m: usize, i: usize, j: Judged) -> Judged
+    requires { ⌜ (length (now log) ≡ 144 * m) × (m ≤ 16384) × (i ≤ m) ⌝ }
+    ensures { λ r. ⌜ (r .ok ≡ every is-empty (drop i (slots-of m (now (log .entry))))) × (r .desk ≡ record { rows = j .desk .rows; logged = i; stored = 0 }) × (r .marked ≡ j .marked) ⌝ }
+{
+    let ok = is_zero(&log[144 * i..144 * m]);
+    let desk = j.desk;
+    let rows = desk.rows;
+    let desk = Desk {
+        rows,
+        logged: i as u32,
+        stored: 0,
+    };
+    let marked = j.marked;
+    Judged { ok, desk, marked }
+}
+
+// Refusal 4: the log of m slots of a register of n pages, slot by slot; and the desk that it says, nothing stored.
+pub fn judge_log(log: &[u8], m: usize, n: usize) -> Judged
+    requires { ⌜ (length (now log) ≡ 144 * m) × (m ≤ 16384) ⌝ }
+    ensures { λ r. ⌜ Judgement n (slots-of m (now (log .entry))) r ⌝ }
+{
+    let mut j = none_open();
+    let mut i = 0;
+    while i < m {
+        if empty_slot(log, m, i) {
+            return finished(log, m, i, j);
+        }
+        j = judge_slot(log, m, n, i, j);
+        if !j.ok {
+            return j;
+        }
+        i += 1;
+    }
+    finished(log, m, i, j)
 }

@@ -1,0 +1,10 @@
+use Rattle.chain.proofs.none_open.Statement.{statement}
+use Rattle.chain.proofs.none_open.Tie as tie
+use mathlib.Core.Path.{refl}
+use Rattle.chain.specs.Shown.{shows-none}
+
+returns : tie.Need-returns
+returns c = shows-none _ refl refl
+
+pub none-open-spec : {M : Type 1} → statement M
+none-open-spec = tie.close (tie.spec returns)
