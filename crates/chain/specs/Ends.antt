@@ -18,7 +18,7 @@ use Rattle.bytes.specs.Ranges.{Run, in-run}
 use Rattle.desk.specs.Rows.{without}
 use Rattle.chain.specs.declared.Judged.{Judged}
 use Rattle.chain.specs.declared.Told.{Told}
-use Rattle.chain.specs.Holding.{Holds}
+use Rattle.lines.specs.Holding.{Holds}
 use Rattle.chain.specs.Eights.{closing}
 use Rattle.chain.specs.Shown.{right-with, Shows, Found, Placed, found, absent}
 use Rattle.chain.specs.Steps.{Tells, Stepped, Steps, Places, GoesOn, row-there, shows-mark, shows-gone, found-as, none-as}

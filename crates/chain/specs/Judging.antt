@@ -23,8 +23,8 @@ use Rattle.bytes.specs.Pieces.{read-all-at, read-all-length}
 use Rattle.bytes.specs.Tables.{getD-tab-of}
 use Rattle.slot.specs.Areas.{slots-of}
 use Rattle.chain.specs.declared.Judged.{Judged}
-use Rattle.chain.specs.Holding.{Holds, holds-none, holds-step}
-use Rattle.chain.specs.Reading.{Reads, reads-few}
+use Rattle.lines.specs.Holding.{Holds, holds-none, holds-step}
+use Rattle.lines.specs.Reading.{Reads, reads-few}
 use Rattle.chain.specs.Eights.{eight}
 use Rattle.chain.specs.Shown.{Shows, marks-of}
 use Rattle.chain.specs.Steps.{Stepped}
@@ -67,7 +67,7 @@ going-start n m b j s =
     }
 
 -- The counts in the rows are of records in the log.
-pending-at : (bs : List Batch) (i : ℕ) → row-at (map row-of bs) i .pending ≤ pending-count bs
+pub pending-at : (bs : List Batch) (i : ℕ) → row-at (map row-of bs) i .pending ≤ pending-count bs
 unfolding pending-count row-of
 pending-at [] i = omega arith
 pending-at (b ∷ bs) zero = omega arith

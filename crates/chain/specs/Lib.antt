@@ -1,8 +1,3 @@
-pub mod Below
-pub mod Batches
-pub mod Holding
-pub mod Reading
-pub mod Lines
 pub mod Eights
 pub mod Shown
 pub mod Steps
@@ -12,3 +7,4 @@ pub mod Undos
 pub mod Turns
 pub mod Rest
 pub mod Judging
+pub mod Accepted

@@ -20,7 +20,7 @@ use Rattle.bytes.specs.Pieces.{All}
 use Rattle.bytes.specs.Tables.{getD-tab}
 use Rattle.desk.specs.Rows.{place-of, without}
 use Rattle.chain.specs.declared.Judged.{Judged}
-use Rattle.chain.specs.Holding.{Sits, Holds}
+use Rattle.lines.specs.Holding.{Sits, Holds}
 use Rattle.chain.specs.Eights.{eight, closing, padded, eight-set, eight-closed}
 
 abbrev pub marks-of : List Batch → List Bool

@@ -19,7 +19,7 @@ use Rattle.bytes.specs.Pieces.{All}
 use Rattle.desk.specs.Rows.{place-of, without, used-count, eight-rows-add, new-row}
 use Rattle.chain.specs.declared.Judged.{Judged}
 use Rattle.chain.specs.declared.Told.{Told}
-use Rattle.chain.specs.Holding.{Sits, Holds}
+use Rattle.lines.specs.Holding.{Sits, Holds}
 use Rattle.chain.specs.Eights.{eight, closing, eight-same}
 use Rattle.chain.specs.Shown.{right-with, Shows, Found, Placed, found, absent, placed, marks-of, eight-at, eight-change, eight-gone}
 

@@ -20,8 +20,8 @@ use Rattle.slot.specs.Codec.{kind-back}
 use Rattle.row.specs.Kept.{row-kept, pages-kept, row-kept-full, pages-kept-full}
 use Rattle.chain.specs.declared.Judged.{Judged}
 use Rattle.chain.specs.declared.Told.{Told}
-use Rattle.chain.specs.Holding.{Holds}
-use Rattle.chain.specs.Reading.{Reads}
+use Rattle.lines.specs.Holding.{Holds}
+use Rattle.lines.specs.Reading.{Reads}
 use Rattle.chain.specs.Shown.{Shows}
 use Rattle.chain.specs.Steps.{Tells, Stepped}
 use Rattle.chain.specs.Undos.{StepsIn}

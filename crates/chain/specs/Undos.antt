@@ -18,12 +18,12 @@ use Rattle.model.specs.Batches.{Batch, find-batch, change-batch, rest-of, next-
 use Rattle.bytes.specs.Ranges.{Run, in-run}
 use Rattle.chain.specs.declared.Judged.{Judged}
 use Rattle.chain.specs.declared.Told.{Told}
-use Rattle.chain.specs.declared.Line.{Line}
-use Rattle.chain.specs.Below.{Linked}
-use Rattle.chain.specs.Batches.{all-found}
-use Rattle.chain.specs.Holding.{Sits, Holds}
-use Rattle.chain.specs.Reading.{Reads}
-use Rattle.chain.specs.Lines.{shown-line, TellsLine}
+use Rattle.lines.specs.declared.Line.{Line}
+use Rattle.lines.specs.Below.{Linked}
+use Rattle.lines.specs.Batches.{all-found}
+use Rattle.lines.specs.Holding.{Sits, Holds}
+use Rattle.lines.specs.Reading.{Reads}
+use Rattle.lines.specs.Lines.{shown-line, TellsLine}
 use Rattle.chain.specs.Shown.{right-with, Shows, Found, Placed, found, absent}
 use Rattle.chain.specs.Steps.{Tells, Stepped, Places, row-there, shows-row, found-as, none-as}
 use Rattle.chain.specs.Families.{stepped-ok, stepped-off, unchained, change-few}

@@ -1,5 +1,4 @@
-// The log judged in one pass, and the pending updates of its open batches found through it.
-use bytes::get32;
+// The log judged in one pass: each slot's row and number, the batch chain, and the desk that the log says.
 use bytes::is_zero;
 use desk::closed;
 use desk::opened;
@@ -7,6 +6,8 @@ use desk::row_place;
 use desk::used_rows;
 use layout::Desk;
 use layout::Row;
+use lines::Line;
+use lines::line_at;
 use row::pages_ok;
 use row::row_ok;
 use slot::Header;
@@ -22,8 +23,6 @@ ghost use Rattle.layout.specs.RecordBytes.{read-slot};
 ghost use Rattle.model.specs.Log.{is-empty};
 ghost use Rattle.bytes.specs.Words.{part};
 ghost use Rattle.slot.specs.Areas.{slots-of};
-ghost use Rattle.chain.specs.Reading.{TellsAfter};
-ghost use Rattle.chain.specs.Lines.{TellsLine};
 ghost use Rattle.layout.specs.Numbers.{tab};
 ghost use Rattle.desk.specs.Rows.{without, with-those};
 ghost use Rattle.chain.specs.Eights.{closing};
@@ -33,15 +32,7 @@ ghost use Rattle.chain.specs.Families.{Low};
 ghost use Rattle.chain.specs.Undos.{StepsIn, line-undone};
 ghost use Rattle.chain.specs.Turns.{Turns};
 ghost use Rattle.chain.specs.Judging.{Judgement};
-
-// A pending update, and the number of the one below it in its batch.
-pub struct Line {
-    pub number: u32,
-    pub adds: bool,
-    pub key: u32,
-    pub value: u32,
-    pub below: u32,
-}
+ghost use Rattle.chain.specs.Accepted.{total, LowRows};
 
 // What a log says so far: whether it keeps 01's rules, its desk, and which of the desk's batches have their abort mark.
 pub struct Judged {
@@ -58,59 +49,6 @@ pub struct Told {
     pub previous: u32,
     pub key: u32,
     pub second: u32,
-}
-
-// What was pending in a batch, newest, after its record p: an update itself, what an undo says is left, or nothing.
-fn pending_after(log: &[u8], m: usize, p: u32) -> u32
-    requires { ⌜ (length (now log) ≡ 144 * m) × (m ≤ 16384) ⌝ }
-    ensures { λ r. ⌜ TellsAfter m (now (log .entry)) p r ⌝ }
-{
-    if p == 0 {
-        return 0;
-    }
-    let i = p as usize - 1;
-    if i >= m {
-        return 0;
-    }
-    let kind = get32(log, 144 * i) / 268435456;
-    match kind {
-        2..=3 => p,
-        4..=5 => get32(log, 144 * i + 12),
-        _ => 0,
-    }
-}
-
-// The pending update that is record `number`. Of a number that is no slot's there is none.
-pub fn line_at(log: &[u8], m: usize, number: u32) -> Line
-    requires { ⌜ (length (now log) ≡ 144 * m) × (m ≤ 16384) ⌝ }
-    ensures { λ r. ⌜ TellsLine m (now (log .entry)) number r ⌝ }
-{
-    let none = Line {
-        number: 0,
-        adds: false,
-        key: 0,
-        value: 0,
-        below: 0,
-    };
-    if number == 0 {
-        return none;
-    }
-    let i = number as usize - 1;
-    if i >= m {
-        return none;
-    }
-    let kind = get32(log, 144 * i) / 268435456;
-    let key = get32(log, 144 * i + 20);
-    let value = get32(log, 144 * i + 24);
-    let previous = get32(log, 144 * i + 12);
-    let below = pending_after(log, m, previous);
-    Line {
-        number,
-        adds: kind == 2,
-        key,
-        value,
-        below,
-    }
 }
 
 fn refused(j: Judged) -> Judged
@@ -483,4 +421,16 @@ pub fn judge_log(log: &[u8], m: usize, n: usize) -> Judged
         i += 1;
     }
     finished(log, m, i, j)
+}
+
+// The lines that are pending in all batches of a desk.
+pub fn pending_total(d: Desk) -> u32
+    requires { ⌜ LowRows (d .rows) ⌝ }
+    ensures { λ r. ⌜ r ≡ total (d .rows) ⌝ }
+{
+    let mut t: u32 = 0;
+    for i in 0..8 {
+        t += d.rows[i].pending;
+    }
+    t
 }

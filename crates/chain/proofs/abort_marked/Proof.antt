@@ -1,3 +1,4 @@
+-- `abort_marked`: the batch does not go on, or it is marked.
 use borrow.Author.Needs.{needs}
 use Rattle.chain.proofs.abort_marked.Statement.{statement}
 use Rattle.chain.proofs.abort_marked.Tie as tie

@@ -1,3 +1,4 @@
+-- `begun`: eight are open already, or a row more.
 use borrow.Author.Needs.{needs}
 use Rattle.chain.proofs.begun.Statement.{statement}
 use Rattle.chain.proofs.begun.Tie as tie

@@ -1,3 +1,4 @@
+-- `changed`: the row is set.
 use borrow.Author.Needs.{needs}
 use Rattle.chain.proofs.changed.Statement.{statement}
 use Rattle.chain.proofs.changed.Tie as tie

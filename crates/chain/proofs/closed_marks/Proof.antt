@@ -1,3 +1,4 @@
+-- `closed_marks`: mark by mark by the rule.
 use borrow.Author.Needs.{needs}
 use Rattle.chain.proofs.closed_marks.Statement.{statement}
 use Rattle.chain.proofs.closed_marks.Tie as tie

@@ -1,3 +1,4 @@
+-- `committed`: the batch does not go on, or its row goes.
 use borrow.Author.Needs.{needs}
 use Rattle.chain.proofs.committed.Statement.{statement}
 use Rattle.chain.proofs.committed.Tie as tie

@@ -1,3 +1,4 @@
+-- `dropped`: the row and the mark go.
 use borrow.Author.Needs.{needs}
 use Rattle.chain.proofs.dropped.Statement.{statement}
 use Rattle.chain.proofs.dropped.Tie as tie

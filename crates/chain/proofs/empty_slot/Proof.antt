@@ -1,3 +1,4 @@
+-- `empty_slot`: the lent part is all zero.
 use borrow.Author.Needs.{needs}
 use Rattle.chain.proofs.empty_slot.Statement.{statement}
 use Rattle.chain.proofs.empty_slot.Tie as tie

@@ -1,3 +1,4 @@
+-- `ended`: no such batch, lines pending, another last record, or its row goes.
 use borrow.Author.Needs.{needs}
 use Rattle.chain.proofs.ended.Statement.{statement}
 use Rattle.chain.proofs.ended.Tie as tie

@@ -1,3 +1,4 @@
+-- `finished`: the rest is all zero.
 use borrow.Author.Needs.{needs}
 use Rattle.chain.proofs.finished.Statement.{statement}
 use Rattle.chain.proofs.finished.Tie as tie

@@ -1,3 +1,4 @@
+-- `goes_on`: its place, its mark and its last record, one after the other.
 use borrow.Author.Needs.{needs}
 use Rattle.chain.proofs.goes_on.Statement.{statement}
 use Rattle.chain.proofs.goes_on.Tie as tie

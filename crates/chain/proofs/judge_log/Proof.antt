@@ -1,3 +1,4 @@
+-- `judge_log`: before slot i the records so far are in order and the rows show their batches.
 use Rattle.chain.proofs.judge_log.Statement.{statement}
 use Rattle.chain.proofs.judge_log.Tie as tie
 use borrow.Author.Needs.{needs}

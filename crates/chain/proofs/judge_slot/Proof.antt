@@ -1,3 +1,4 @@
+-- `judge_slot`: no record, another number, a broken row, pages that are none, or the record's step.
 use borrow.Author.Needs.{needs}
 use Rattle.chain.proofs.judge_slot.Statement.{statement}
 use Rattle.chain.proofs.judge_slot.Tie as tie

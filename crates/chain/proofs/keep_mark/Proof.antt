@@ -1,3 +1,4 @@
+-- `keep_mark`: by the rule's two tests.
 use borrow.Author.Needs.{needs}
 use Rattle.chain.proofs.keep_mark.Statement.{statement}
 use Rattle.chain.proofs.keep_mark.Tie as tie

@@ -1,3 +1,4 @@
+-- `none_open`: no row is in use.
 use Rattle.chain.proofs.none_open.Statement.{statement}
 use Rattle.chain.proofs.none_open.Tie as tie
 use mathlib.Core.Path.{refl}

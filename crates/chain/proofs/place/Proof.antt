@@ -1,3 +1,4 @@
+-- `place`: batch 0 is never open; any other is found among the rows.
 use borrow.Author.Needs.{needs}
 use Rattle.chain.proofs.place.Statement.{statement}
 use Rattle.chain.proofs.place.Tie as tie

@@ -1,3 +1,4 @@
+-- `step`: by the kind's family.
 use borrow.Author.Needs.{needs}
 use Rattle.chain.proofs.step.Statement.{statement}
 use Rattle.chain.proofs.step.Tie as tie

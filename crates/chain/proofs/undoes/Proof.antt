@@ -1,3 +1,4 @@
+-- `undoes`: by the tests in turn.
 use Rattle.chain.proofs.undoes.Statement.{statement}
 use Rattle.chain.proofs.undoes.Tie as tie
 use mathlib.Core.Path.{_≡_, sym, _∙_, ap}

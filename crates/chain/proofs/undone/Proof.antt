@@ -1,3 +1,4 @@
+-- `undone`: no such batch, nothing pending, another line, or its row has a line less.
 use borrow.Author.Needs.{needs}
 use Rattle.chain.proofs.undone.Statement.{statement}
 use Rattle.chain.proofs.undone.Tie as tie

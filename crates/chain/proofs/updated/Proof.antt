@@ -1,3 +1,4 @@
+-- `updated`: the batch does not go on, or its row has a line more.
 use borrow.Author.Needs.{needs}
 use Rattle.chain.proofs.updated.Statement.{statement}
 use Rattle.chain.proofs.updated.Tie as tie

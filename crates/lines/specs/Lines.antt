@@ -10,9 +10,9 @@ use Rattle.layout.specs.Numbers.{be32}
 use Rattle.layout.specs.Records.{Rec, Kind, kind-number}
 use Rattle.layout.specs.RecordBytes.{slot-size}
 use Rattle.model.specs.Batches as model
-use Rattle.chain.specs.declared.Line.{Line}
-use Rattle.chain.specs.Below.{record-at, pending-after, below, adds-kind, Stands, Linked}
-use Rattle.chain.specs.Reading.{Reads, TellsAfter, reads-few, kind-read, previous-read, key-read, second-read}
+use Rattle.lines.specs.declared.Line.{Line}
+use Rattle.lines.specs.Below.{record-at, pending-after, below, adds-kind, Stands, Linked}
+use Rattle.lines.specs.Reading.{Reads, TellsAfter, reads-few, kind-read, previous-read, key-read, second-read}
 
 abbrev pub shown-line : model.Line → List model.Line → Line
 shown-line x xs = record { number = x .number; adds = x .adds; key = x .key; value = x .value; below = model.next-undo xs }

@@ -13,8 +13,8 @@ use Rattle.layout.specs.Desks.{most-open}
 use Rattle.layout.specs.Records.{Rec, Kind, begin, insert, delete, undo-insert, undo-delete, commit, abort-mark, end, split, link, unlink, merge, redistribute, raise, lower}
 use Rattle.model.specs.Batches.{Line, Batch, find-batch, change-batch, drop-batch, rest-of, next-undo, written, undone, mark-set, tell, told, open-batches, follows, unmarked, undoes-line, newest-is, undoes, nothing-pending, chains, chain-step, chain-ok, pending-count}
 use Rattle.bytes.specs.Pieces.{All, all-map}
-use Rattle.chain.specs.Batches.{all-found, all-drop, all-end, all-change, count-change, count-drop, count-end}
-use Rattle.chain.specs.Below.{record-at, pending-by, pending-after, adds-kind, Linked, record-next, after-more, linked-more, newest-within, linked-write}
+use Rattle.lines.specs.Batches.{all-found, all-drop, all-end, all-change, count-change, count-drop, count-end}
+use Rattle.lines.specs.Below.{record-at, pending-by, pending-after, adds-kind, Linked, record-next, after-more, linked-more, newest-within, linked-write}
 
 -- ---- what a record that keeps the chain says of its batch
 

@@ -21,8 +21,8 @@ use Rattle.bytes.specs.Ranges.{Run, in-run}
 use Rattle.bytes.specs.Same.{same-true}
 use Rattle.slot.specs.Areas.{slots-of}
 use Rattle.slot.specs.Codec.{kind-back, kind-range, word-kind, word-0}
-use Rattle.chain.specs.declared.Line.{Line}
-use Rattle.chain.specs.Below.{no-record, record-at, pending-by, pending-after, below, adds-kind, Stands, Linked}
+use Rattle.lines.specs.declared.Line.{Line}
+use Rattle.lines.specs.Below.{no-record, record-at, pending-by, pending-after, below, adds-kind, Stands, Linked}
 
 -- The records l stand in the first slots of an area of m slots.
 abbrev pub Reads : ℕ → List ℕ → List Rec → Type 0

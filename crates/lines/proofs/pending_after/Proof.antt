@@ -1,10 +1,11 @@
+-- `pending_after`: no record, a slot that is none, or by the record's kind.
 use borrow.Author.Needs.{needs}
-use Rattle.chain.proofs.pending_after.Statement.{statement}
-use Rattle.chain.proofs.pending_after.Tie as tie
+use Rattle.lines.proofs.pending_after.Statement.{statement}
+use Rattle.lines.proofs.pending_after.Tie as tie
 use Prim.Native.Nat.{ℕ, suc, _-_, _/_}
 use mathlib.Core.Path.{_≡_, ap, sym, subst}
 use native.Mathlib.Omega.{arith}
-use Rattle.chain.specs.Reading.{TellsAfter, after-zero, after-past, after-update, after-undo, after-begin, after-other}
+use Rattle.lines.specs.Reading.{TellsAfter, after-zero, after-past, after-update, after-undo, after-begin, after-other}
 
 returns : tie.Need-returns
 returns c = let a = c .before .before .args in after-zero (a .m) (a .log .now) (a .p) (c .if1 .taken)

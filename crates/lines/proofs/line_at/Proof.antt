@@ -1,10 +1,11 @@
+-- `line_at`: no record, a slot that is none, or the record's words.
 use borrow.Author.Needs.{needs}
-use Rattle.chain.proofs.line_at.Statement.{statement}
-use Rattle.chain.proofs.line_at.Tie as tie
+use Rattle.lines.proofs.line_at.Statement.{statement}
+use Rattle.lines.proofs.line_at.Tie as tie
 use Prim.Native.Nat.{ℕ, suc, _-_, _/_}
 use mathlib.Core.Path.{_≡_, ap}
 use native.Mathlib.Omega.{arith}
-use Rattle.chain.specs.Lines.{line-zero, line-past, line-read}
+use Rattle.lines.specs.Lines.{line-zero, line-past, line-read}
 
 returns : tie.Need-returns
 returns c = let a = c .before .before .args in line-zero (a .m) (a .log .now) (a .number) _ (c .if1 .taken)
