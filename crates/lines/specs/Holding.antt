@@ -76,7 +76,7 @@ sits-more log r b s =
       newest = λ e. after-more log (r ∷ []) (b .last) (s .last) ∙ s .newest e;
     }
 
-linked-rest : (log : List Rec) (l : Line) (ls : List Line) → Linked log (l ∷ ls) → Linked log ls
+pub linked-rest : (log : List Rec) (l : Line) (ls : List Line) → Linked log (l ∷ ls) → Linked log ls
 unfolding Linked
 linked-rest log l ls h = h .3
 

@@ -21,11 +21,11 @@ shown-line x xs = record { number = x .number; adds = x .adds; key = x .key; val
 abbrev pub TellsLine : ℕ → List ℕ → ℕ → Line → Type 0
 TellsLine m b n r = (l : List Rec) (x : model.Line) (xs : List model.Line) → Reads m b l → Linked l (x ∷ xs) → n ≡ x .number → r ≡ shown-line x xs
 
-stands : (l : List Rec) (x : model.Line) (xs : List model.Line) → Linked l (x ∷ xs) → Stands l x
+pub stands : (l : List Rec) (x : model.Line) (xs : List model.Line) → Linked l (x ∷ xs) → Stands l x
 unfolding Linked
 stands l x xs h = h .0
 
-leads : (l : List Rec) (x : model.Line) (xs : List model.Line) → Linked l (x ∷ xs) → below l (record-at l (x .number)) ≡ model.next-undo xs
+pub leads : (l : List Rec) (x : model.Line) (xs : List model.Line) → Linked l (x ∷ xs) → below l (record-at l (x .number)) ≡ model.next-undo xs
 unfolding Linked
 leads l x xs h = h .1
 
