@@ -1,19 +1,19 @@
 -- A commit, an abort mark, an end, and the records that no batch has: what the program makes of each.
-use Prim.Native.Nat.{ℕ, zero, suc, _+_, _-_, _≤_, _<_}
-use mathlib.Core.Path.{_≡_, refl, sym, ap, ap₂, _∙_, subst}
-use mathlib.Core.Option.{Option, none, some}
-use mathlib.Core.Bool.{Bool, true, false, not, _&&_}
-use mathlib.Core.List.{List, [], _∷_, _++_, map}
+use Prim.Native.Nat.{ℕ, _≤_, _<_}
+use mathlib.Core.Path.{_≡_, refl, sym, ap, _∙_, subst}
+use mathlib.Core.Option.{none, some}
+use mathlib.Core.Bool.{Bool, true, false, _&&_}
+use mathlib.Core.List.{List}
 use native.Mathlib.Omega.{arith}
-use lib.ListN.{length, getD, set}
-use lib.Dec.{eqb, leb}
-use Rattle.base.specs.Tests.{clash, eq-true, neq-false}
+use lib.ListN.{length, set}
+use lib.Dec.{eqb}
+use Rattle.base.specs.Tests.{eq-true, neq-false}
 use Rattle.layout.specs.declared.Row.{Row}
 use Rattle.layout.specs.declared.Desk.{Desk}
 use Rattle.layout.specs.Numbers.{tab}
-use Rattle.layout.specs.Desks.{no-row, row-at}
-use Rattle.layout.specs.Records.{Rec, Kind, kind-of, commit, abort-mark, end}
-use Rattle.model.specs.Batches.{Batch, find-batch, change-batch, drop-batch, next-undo, row-of, mark-set, tell, follows, nothing-pending, chains, chain-step}
+use Rattle.layout.specs.Desks.{row-at}
+use Rattle.layout.specs.Records.{Rec, kind-of, end}
+use Rattle.model.specs.Batches.{Batch, find-batch, row-of, mark-set, tell, follows, nothing-pending, chains, chain-step}
 use Rattle.bytes.specs.Ranges.{Run, in-run}
 use Rattle.desk.specs.Rows.{without}
 use Rattle.chain.specs.declared.Judged.{Judged}

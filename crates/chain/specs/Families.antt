@@ -1,28 +1,26 @@
 -- A record's family of kinds, as the program goes by it: begin; insert and delete; commit; abort mark; end; and those that no batch has.
-use Prim.Native.Nat.{ℕ, zero, suc, _+_, _-_, _≤_, _<_}
+use Prim.Native.Nat.{ℕ, zero, suc, _+_, _≤_, _<_}
 use mathlib.Core.Path.{_≡_, refl, sym, ap, ap₂, _∙_, subst}
-use mathlib.Core.Option.{Option, none, some}
-use mathlib.Core.Bool.{Bool, true, false, not, _&&_}
+use mathlib.Core.Bool.{true, false, _&&_}
 use mathlib.Core.List.{List, [], _∷_, _++_, map}
 use native.Mathlib.Omega.{arith}
-use lib.ListN.{length, getD, set, length-append, length-map}
+use lib.ListN.{length, set, length-append, length-map}
 use lib.Dec.{eqb, leb}
-use Rattle.base.specs.Tests.{clash, le-true, le-false, eq-true, neq-false}
+use Rattle.base.specs.Tests.{clash, le-true, le-false}
 use Rattle.layout.specs.declared.Row.{Row}
 use Rattle.layout.specs.declared.Desk.{Desk}
-use Rattle.layout.specs.Numbers.{tab}
-use Rattle.layout.specs.Desks.{no-row, row-at, eight-rows, most-open}
-use Rattle.layout.specs.Records.{Rec, Kind, kind-of, begin, insert, delete, commit, abort-mark, end}
-use Rattle.model.specs.Batches.{Line, Batch, find-batch, change-batch, drop-batch, next-undo, row-of, written, mark-set, tell, unmarked, follows, nothing-pending, chains, chain-step}
+use Rattle.layout.specs.Desks.{row-at, eight-rows, most-open}
+use Rattle.layout.specs.Records.{Rec, Kind, kind-of, begin}
+use Rattle.model.specs.Batches.{Batch, find-batch, change-batch, drop-batch, next-undo, row-of, written, tell, chains, chain-step}
 use Rattle.bytes.specs.Pieces.{All}
 use Rattle.bytes.specs.Ranges.{Run, in-run}
-use Rattle.desk.specs.Rows.{place-of, without, used-count, eight-rows-add, new-row}
+use Rattle.desk.specs.Rows.{place-of, used-count, eight-rows-add, new-row}
 use Rattle.chain.specs.declared.Judged.{Judged}
 use Rattle.chain.specs.declared.Told.{Told}
 use Rattle.lines.specs.Holding.{Sits, Holds}
-use Rattle.chain.specs.Eights.{eight, closing, eight-same}
-use Rattle.chain.specs.Shown.{right-with, Shows, Found, Placed, found, absent, marks-of, map-append}
-use Rattle.chain.specs.Steps.{Tells, Stepped, Steps, Places, Onward, onward, halted, GoesOn, goes, row-there, shows-row, shows-mark, shows-gone}
+use Rattle.chain.specs.Eights.{eight, eight-same}
+use Rattle.chain.specs.Shown.{right-with, Shows, Found, marks-of, map-append}
+use Rattle.chain.specs.Steps.{Tells, Stepped, Steps, Onward, onward, halted, GoesOn, goes, row-there, shows-row}
 
 -- The rows' counts are small enough to add to.
 abbrev pub Low : Judged → Type 0
@@ -65,7 +63,7 @@ no-zero log [] h i l e = omega arith
 no-zero log (b ∷ bs) h zero l e = omega (arith, e, h .0 .from-one)
 no-zero log (b ∷ bs) h (suc i) l e = no-zero log bs (h .1) i (omega arith) e
 
-rows-used : (j : Judged) (log : List Rec) (bs : List Batch) → Holds log bs → Shows bs j → place-of 0 (j .desk .rows) ≡ length bs
+pub rows-used : (j : Judged) (log : List Rec) (bs : List Batch) → Holds log bs → Shows bs j → place-of 0 (j .desk .rows) ≡ length bs
 rows-used j log bs h s =
     ap (place-of 0) (s .rows) ∙ used-count (map row-of bs) (omega (arith, length-map bs row-of, h .few)) (no-zero log bs (h .sits)) ∙ length-map bs row-of
 

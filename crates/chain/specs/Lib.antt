@@ -4,7 +4,3 @@ pub mod Steps
 pub mod Families
 pub mod Ends
 pub mod Undos
-pub mod Turns
-pub mod Rest
-pub mod Judging
-pub mod Accepted

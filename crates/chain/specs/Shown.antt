@@ -1,26 +1,23 @@
 -- The program's eight rows and marks show the open batches of a log: where a batch is found, and what changing or dropping it does to them.
 use Prim.Native.Nat.{ℕ, zero, suc, _+_, _-_, _≤_, _<_}
-use mathlib.Core.Path.{_≡_, refl, sym, ap, ap₂, _∙_, subst}
-use mathlib.Core.Option.{Option, none, some}
+use mathlib.Core.Path.{_≡_, refl, sym, ap, ap₂, _∙_}
+use mathlib.Core.Option.{none, some}
 use mathlib.Core.Bool.{Bool, true, false}
 use mathlib.Core.List.{List, [], _∷_, _++_, map}
 use native.Mathlib.Omega.{arith}
-use lib.ListN.{length, getD, set, replicate, length-append, length-map, List·getD-append}
-use lib.Seq.{getD-append-seam, set-getD}
+use lib.ListN.{length, getD, set, replicate, length-map}
+use lib.Seq.{getD-append-seam}
 use lib.Dec.{eqb}
-use Rattle.base.specs.Tests.{pick, Case, yes!, no!, case, true-eq, eq-true, neq-false, none-some}
+use Rattle.base.specs.Tests.{pick, Case, yes!, no!, case, true-eq, eq-true, neq-false}
 use borrow.Author.Tests.{eqb-false}
 use Rattle.layout.specs.declared.Row.{Row}
 use Rattle.layout.specs.declared.Desk.{Desk}
 use Rattle.layout.specs.Numbers.{tab}
-use Rattle.layout.specs.Desks.{no-row, row-at, eight-rows, most-open}
-use Rattle.layout.specs.Records.{Rec}
-use Rattle.model.specs.Batches.{Line, Batch, find-batch, change-batch, drop-batch, next-undo, row-of}
-use Rattle.bytes.specs.Pieces.{All}
+use Rattle.layout.specs.Desks.{no-row, row-at, eight-rows}
+use Rattle.model.specs.Batches.{Batch, find-batch, change-batch, drop-batch, row-of}
 use Rattle.bytes.specs.Tables.{getD-tab}
-use Rattle.desk.specs.Rows.{place-of, without}
+use Rattle.desk.specs.Rows.{place-of}
 use Rattle.chain.specs.declared.Judged.{Judged}
-use Rattle.lines.specs.Holding.{Sits, Holds}
 use Rattle.chain.specs.Eights.{eight, closing, padded, eight-set, eight-closed}
 
 abbrev pub marks-of : List Batch → List Bool

@@ -1,27 +1,27 @@
 -- What the program does to its rows and marks at a record, and that it is what the record does to the batches.
-use Prim.Native.Nat.{ℕ, zero, suc, _+_, _-_, _≤_, _<_}
+use Prim.Native.Nat.{ℕ, suc, _≤_, _<_}
 use mathlib.Core.Path.{_≡_, refl, sym, ap, ap₂, _∙_, subst}
-use mathlib.Core.Option.{Option, none, some}
+use mathlib.Core.Option.{none, some}
 use mathlib.Core.Bool.{Bool, true, false, not, _&&_}
-use mathlib.Core.List.{List, [], _∷_, _++_, map}
+use mathlib.Core.List.{List, [], _∷_}
 use native.Mathlib.Omega.{arith}
-use lib.ListN.{length, getD, set, length-append, length-map}
+use lib.ListN.{length, getD, set}
 use lib.Seq.{set-getD}
-use lib.Dec.{eqb, leb}
-use Rattle.base.specs.Tests.{pick, clash, and-both, le-true, le-false, eq-true, neq-false}
+use lib.Dec.{eqb}
+use Rattle.base.specs.Tests.{eq-true, neq-false}
 use Rattle.layout.specs.declared.Row.{Row}
 use Rattle.layout.specs.declared.Desk.{Desk}
 use Rattle.layout.specs.Numbers.{tab}
-use Rattle.layout.specs.Desks.{no-row, row-at, eight-rows, most-open}
-use Rattle.layout.specs.Records.{Rec, Kind, kind-of, begin, insert, delete, commit, abort-mark, end}
-use Rattle.model.specs.Batches.{Line, Batch, find-batch, change-batch, drop-batch, next-undo, row-of, tell, unmarked, follows, chains, chain-step}
+use Rattle.layout.specs.Desks.{no-row, row-at, eight-rows}
+use Rattle.layout.specs.Records.{Rec, kind-of}
+use Rattle.model.specs.Batches.{Batch, find-batch, change-batch, drop-batch, row-of, tell, unmarked, follows, chain-step}
 use Rattle.bytes.specs.Pieces.{All}
-use Rattle.desk.specs.Rows.{place-of, without, used-count, eight-rows-add, new-row}
+use Rattle.desk.specs.Rows.{place-of, without}
 use Rattle.chain.specs.declared.Judged.{Judged}
 use Rattle.chain.specs.declared.Told.{Told}
 use Rattle.lines.specs.Holding.{Sits, Holds}
-use Rattle.chain.specs.Eights.{eight, closing, eight-same}
-use Rattle.chain.specs.Shown.{right-with, Shows, Found, Placed, found, absent, placed, marks-of, eight-at, eight-change, eight-gone}
+use Rattle.chain.specs.Eights.{closing}
+use Rattle.chain.specs.Shown.{right-with, Shows, Found, Placed, found, absent, placed, eight-at, eight-change, eight-gone}
 
 -- The numbers are a record's.
 pub record Tells (t : Told) (x : Rec) : Type 0 where

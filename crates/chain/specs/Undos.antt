@@ -1,18 +1,17 @@
 -- An undo: its batch's newest line is read from the log, and what is left pending is the line below.
-use Prim.Native.Nat.{ℕ, zero, suc, _+_, _-_, _≤_, _<_}
-use native.Mathlib.Numerals.{sub-one}
+use Prim.Native.Nat.{ℕ, suc, _-_, _≤_, _<_}
 use mathlib.Core.Path.{_≡_, refl, sym, ap, ap₂, _∙_, subst}
-use mathlib.Core.Option.{Option, none, some}
+use mathlib.Core.Option.{some}
 use mathlib.Core.Bool.{Bool, true, false, not, _&&_}
-use mathlib.Core.List.{List, [], _∷_, _++_}
+use mathlib.Core.List.{List, [], _∷_}
 use native.Mathlib.Omega.{arith}
 use lib.ListN.{length, set}
 use lib.Dec.{eqb}
 use Rattle.base.specs.Tests.{pick}
 use Rattle.layout.specs.declared.Row.{Row}
 use Rattle.layout.specs.declared.Desk.{Desk}
-use Rattle.layout.specs.Desks.{no-row, row-at}
-use Rattle.layout.specs.Records.{Rec, Kind, kind-of}
+use Rattle.layout.specs.Desks.{row-at}
+use Rattle.layout.specs.Records.{Rec, kind-of}
 use Rattle.model.specs.Batches as model
 use Rattle.model.specs.Batches.{Batch, find-batch, change-batch, rest-of, next-undo, row-of, undone, tell, newest-is, undoes-line, undoes, chains, chain-step}
 use Rattle.bytes.specs.Ranges.{Run, in-run}

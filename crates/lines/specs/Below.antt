@@ -1,5 +1,5 @@
 -- A batch's pending lines found through the log alone: from each line's record to the line below it, by the record that it names.
-use Prim.Native.Nat.{ℕ, zero, suc, _+_, _≤_, _<_}
+use Prim.Native.Nat.{ℕ, zero, suc, _≤_, _<_}
 use mathlib.Core.Path.{_≡_, refl, sym, ap, _∙_, subst}
 use mathlib.Core.Bool.{Bool, true, false}
 use mathlib.Core.List.{List, [], _∷_, _++_}
@@ -7,7 +7,7 @@ use native.Mathlib.Omega.{arith}
 use lib.ListN.{length, getD, length-append, List·getD-append}
 use lib.Seq.{getD-append-seam}
 use Rattle.layout.specs.Records.{Rec, Kind, batch-row, begin, insert, delete, undo-insert, undo-delete, commit, abort-mark, end, split, link, unlink, merge, redistribute, raise, lower}
-use Rattle.model.specs.Batches.{Line, Batch, next-undo}
+use Rattle.model.specs.Batches.{Line, next-undo}
 
 -- Record number n of a log; number 0, and those past the last, are none.
 abbrev pub no-record : Rec

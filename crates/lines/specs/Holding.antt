@@ -1,5 +1,5 @@
 -- Every open batch of a log that keeps the chain has its pending lines linked in it: record by record.
-use Prim.Native.Nat.{ℕ, zero, suc, _+_, _≤_, _<_}
+use Prim.Native.Nat.{ℕ, suc, _≤_, _<_}
 use mathlib.Core.Path.{_≡_, refl, sym, ap, _∙_, subst}
 use mathlib.Core.Option.{Option, none, some}
 use mathlib.Core.Bool.{Bool, true, false, not, _&&_}
@@ -8,13 +8,13 @@ use native.Mathlib.Omega.{arith}
 use lib.ListN.{length, length-append}
 use lib.Dec.{leb, eqb}
 use borrow.Author.Tests.{not-true}
-use Rattle.base.specs.Tests.{pick, Case, yes!, no!, case, clash, none-some, some-inj, and-true, true-eq, true-le}
+use Rattle.base.specs.Tests.{clash, and-true, true-eq, true-le}
 use Rattle.layout.specs.Desks.{most-open}
 use Rattle.layout.specs.Records.{Rec, Kind, begin, insert, delete, undo-insert, undo-delete, commit, abort-mark, end, split, link, unlink, merge, redistribute, raise, lower}
-use Rattle.model.specs.Batches.{Line, Batch, find-batch, change-batch, drop-batch, rest-of, next-undo, written, undone, mark-set, tell, told, open-batches, follows, unmarked, undoes-line, newest-is, undoes, nothing-pending, chains, chain-step, chain-ok, pending-count}
+use Rattle.model.specs.Batches.{Line, Batch, find-batch, change-batch, drop-batch, rest-of, next-undo, written, undone, mark-set, tell, told, open-batches, follows, unmarked, undoes-line, newest-is, undoes, chains, chain-step, chain-ok, pending-count}
 use Rattle.bytes.specs.Pieces.{All, all-map}
 use Rattle.lines.specs.Batches.{all-found, all-drop, all-end, all-change, count-change, count-drop, count-end}
-use Rattle.lines.specs.Below.{record-at, pending-by, pending-after, adds-kind, Linked, record-next, after-more, linked-more, newest-within, linked-write}
+use Rattle.lines.specs.Below.{pending-by, pending-after, adds-kind, Linked, record-next, after-more, linked-more, linked-write}
 
 -- ---- what a record that keeps the chain says of its batch
 

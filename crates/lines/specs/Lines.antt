@@ -1,13 +1,13 @@
 -- A pending line as the program reads it: from its record, with the number of the line below.
 use Prim.Native.Nat.{ℕ, suc, _+_, _*_, _/_, _≤_, _<_}
-use mathlib.Core.Path.{_≡_, refl, sym, ap, _∙_, subst}
+use mathlib.Core.Path.{_≡_, refl, sym, ap, _∙_}
 use mathlib.Core.Bool.{Bool, true, false}
-use mathlib.Core.List.{List, [], _∷_}
+use mathlib.Core.List.{List, _∷_}
 use native.Mathlib.Omega.{arith}
 use lib.ListN.{length}
 use lib.Dec.{eqb}
 use Rattle.layout.specs.Numbers.{be32}
-use Rattle.layout.specs.Records.{Rec, Kind, kind-number}
+use Rattle.layout.specs.Records.{Rec, kind-number}
 use Rattle.layout.specs.RecordBytes.{slot-size}
 use Rattle.model.specs.Batches as model
 use Rattle.lines.specs.declared.Line.{Line}

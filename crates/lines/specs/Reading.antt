@@ -1,28 +1,25 @@
 -- What the program reads of a record in a log area: the few numbers that lead from a pending line to the one below it.
 use Prim.Native.Nat.{ℕ, zero, suc, _+_, _*_, _/_, _≤_, _<_}
-use mathlib.Core.Path.{_≡_, refl, sym, ap, _∙_, subst}
-use mathlib.Core.Bool.{Bool, true, false}
-use mathlib.Core.List.{List, [], _∷_, _++_}
+use mathlib.Core.Path.{_≡_, refl, sym, ap, _∙_}
+use mathlib.Core.List.{List, [], _∷_}
 use native.Mathlib.Omega.{arith}
 use native.Mathlib.Nat.{mod-lt, add-zero, add-suc, suc-add}
 use native.Mathlib.Decide.{decLt}
 use lib.ListN.{length, getD, take, drop}
 use lib.Seq.{take-all, getD-take}
-use lib.Dec.{eqb, lit<, lit≤}
-use Rattle.base.specs.Tests.{Case, yes!, no!, case, eq-true, neq-false}
+use lib.Dec.{lit<, lit≤}
+use Rattle.base.specs.Tests.{Case, yes!, no!, case}
 use Rattle.layout.specs.Numbers.{be32, same-bytes, zeros}
-use Rattle.layout.specs.Records.{Rec, Kind, kind-of, kind-number, begin, insert, delete, undo-insert, undo-delete}
+use Rattle.layout.specs.Records.{Rec, Kind, kind-of, kind-number}
 use Rattle.layout.specs.RecordBytes.{record-bytes, record-fields, slot-size, Slot, empty, full, other, full-by, slot-by, read-slot}
 use Rattle.model.specs.Log.{slots-from}
-use Rattle.model.specs.Batches as model
 use Rattle.bytes.specs.Words.{part, be32-drop, be32-take}
 use Rattle.bytes.specs.Pieces.{read-all-at, read-all-length}
 use Rattle.bytes.specs.Ranges.{Run, in-run}
 use Rattle.bytes.specs.Same.{same-true}
 use Rattle.slot.specs.Areas.{slots-of}
 use Rattle.slot.specs.Codec.{kind-back, kind-range, word-kind, word-0}
-use Rattle.lines.specs.declared.Line.{Line}
-use Rattle.lines.specs.Below.{no-record, record-at, pending-by, pending-after, below, adds-kind, Stands, Linked}
+use Rattle.lines.specs.Below.{no-record, record-at, pending-by, pending-after}
 
 -- The records l stand in the first slots of an area of m slots.
 abbrev pub Reads : ℕ → List ℕ → List Rec → Type 0

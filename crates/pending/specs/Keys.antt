@@ -1,21 +1,17 @@
 -- Keys among a batch's pending lines: whether one of them has it, and which is the newest that does.
-use Prim.Native.Nat.{ℕ, zero, suc, _+_, _-_, _≤_, _<_}
-use mathlib.Core.Path.{_≡_, refl, sym, ap, _∙_, subst}
+use Prim.Native.Nat.{ℕ, _-_, _<_}
+use mathlib.Core.Path.{_≡_, refl, sym, ap, _∙_}
 use mathlib.Core.Option.{Option, none, some}
-use mathlib.Core.Bool.{Bool, true, false, not, _&&_, _||_}
-use mathlib.Core.List.{List, [], _∷_}
+use mathlib.Core.Bool.{Bool, true, false}
+use mathlib.Core.List.{List}
 use native.Mathlib.Omega.{arith}
-use lib.ListN.{length, take}
-use lib.Dec.{eqb, ltb, leb}
-use Rattle.base.specs.Tests.{pick, any, every, clash, eq-true, neq-false}
+use Rattle.base.specs.Tests.{any, eq-true, neq-false}
 use Rattle.layout.specs.Records.{Rec}
-use Rattle.model.specs.Batches.{Line, next-undo}
+use Rattle.model.specs.Batches.{Line}
 use Rattle.model.specs.Pending.{newest-on}
 use Rattle.lines.specs.declared.Line as program
-use Rattle.lines.specs.Below.{Linked}
-use Rattle.lines.specs.Reading.{Reads}
 use Rattle.lines.specs.Lines.{shown-line, stands, TellsLine}
-use Rattle.pending.specs.Walks.{Walk, Asked, Walking, walk-start, walk-end, walk-on, walk-out}
+use Rattle.pending.specs.Walks.{Question, Asked, Walking, walk-start, walk-end, walk-on, walk-out}
 
 -- Nothing more is known.
 abbrev pub Plain : Unit {0} → List Rec → Type 0
@@ -23,8 +19,8 @@ Plain i l = Unit {0}
 
 -- ---- whether some line's key is of a kind
 
-abbrev pub some-key : (ℕ → Bool) → Unit {0} → List Line → Bool
-some-key g i ls = any (λ x. g (x .key)) ls
+abbrev pub some-key : (ℕ → Bool) → Unit {0} → Question Bool
+some-key g i all left ls = any (λ x. g (x .key)) ls
 
 abbrev pub KeysSay : (ℕ → Bool) → ℕ → List ℕ → ℕ → ℕ → Bool → Type 0
 KeysSay g m b from count r = Asked Plain (some-key g) m b from count (λ i v. r ≡ v)
@@ -39,20 +35,20 @@ module _ (g : ℕ → Bool) (m : ℕ) (b : List ℕ) (from count : ℕ) where
   module _ (at left : ℕ) (w : KeysLeft g m b from count at left) where
     pub keys-end : left ≡ 0 → KeysSay g m b from count false
     unfolding any
-    keys-end z = walk-end Plain (some-key g) m b from count (λ i v. false ≡ v) at left w z (λ i. refl)
+    keys-end z = walk-end Plain (some-key g) m b from count (λ i v. false ≡ v) at left w z (λ i ls. refl)
 
     module _ (z : left ≡ 0 → ⊥) (x : program.Line) (t : TellsLine m b at x) where
       pub keys-hit : g (x .key) ≡ true → KeysSay g m b from count true
       unfolding any
       keys-hit e =
           walk-out Plain (some-key g) m b from count at left w z x t (λ i v. true ≡ v)
-          (λ i l y ys q rd h s c. sym (rw (sym (ap (λ (p : program.Line). g (p .key)) s) ∙ e)))
+          (λ i l ls y ys q rd n h o. sym (rw (sym (ap (λ (p : program.Line). g (p .key)) (o .shown)) ∙ e)))
 
       pub keys-on : g (x .key) ≡ false → KeysLeft g m b from count (x .below) (left - 1)
       unfolding any
       keys-on e =
           walk-on Plain (some-key g) m b from count at left w z x t
-          (λ i l y ys q rd h s c. rw (sym (ap (λ (p : program.Line). g (p .key)) s) ∙ e))
+          (λ i l ls y ys q rd n h o. rw (sym (ap (λ (p : program.Line). g (p .key)) (o .shown)) ∙ e))
 
 -- ---- the newest line on a key
 
@@ -61,8 +57,8 @@ unfoldable pub NewestIs : program.Line → Option Line → Type 0
 NewestIs r none = r .number ≡ 0
 NewestIs r (some y) = (0 < r .number) × (r .adds ≡ y .adds) × (r .value ≡ y .value)
 
-abbrev pub newest : ℕ → Unit {0} → List Line → Option Line
-newest k i ls = newest-on k ls
+abbrev pub newest : ℕ → Unit {0} → Question (Option Line)
+newest k i all left ls = newest-on k ls
 
 abbrev pub NewestSays : ℕ → ℕ → List ℕ → ℕ → ℕ → program.Line → Type 0
 NewestSays k m b from count r = Asked Plain (newest k) m b from count (λ i v. NewestIs r v)
@@ -77,7 +73,7 @@ module _ (k m : ℕ) (b : List ℕ) (from count : ℕ) where
   module _ (at left : ℕ) (w : NewestLeft k m b from count at left) where
     pub newest-none : (r : program.Line) → r .number ≡ 0 → left ≡ 0 → NewestSays k m b from count r
     unfolding newest-on NewestIs
-    newest-none r n z = walk-end Plain (newest k) m b from count (λ i v. NewestIs r v) at left w z (λ i. n)
+    newest-none r n z = walk-end Plain (newest k) m b from count (λ i v. NewestIs r v) at left w z (λ i ls. n)
 
     module _ (z : left ≡ 0 → ⊥) (x : program.Line) (t : TellsLine m b at x) where
       -- The key of the line that was read.
@@ -88,11 +84,11 @@ module _ (k m : ℕ) (b : List ℕ) (from count : ℕ) where
       unfolding newest-on NewestIs
       newest-hit e =
           walk-out Plain (newest k) m b from count at left w z x t (λ i v. NewestIs x v)
-          (λ i l y ys q rd h s c.
-          rw (eq-true k (y .key) (sym e ∙ same-key y ys s)) (omega (arith, ap (λ (a : program.Line). a .number) s, stands l y ys h .from-one), ap (λ (a : program.Line). a .adds) s, ap (λ (a : program.Line). a .value) s))
+          (λ i l ls y ys q rd n h o.
+          rw (eq-true k (y .key) (sym e ∙ same-key y ys (o .shown))) (omega (arith, ap (λ (a : program.Line). a .number) (o .shown), stands l y ys (o .linked) .from-one), ap (λ (a : program.Line). a .adds) (o .shown), ap (λ (a : program.Line). a .value) (o .shown)))
 
       pub newest-further : (x .key ≡ k → ⊥) → NewestLeft k m b from count (x .below) (left - 1)
       unfolding newest-on
       newest-further e =
           walk-on Plain (newest k) m b from count at left w z x t
-          (λ i l y ys q rd h s c. rw (neq-false (λ (d : k ≡ y .key). e (same-key y ys s ∙ sym d))))
+          (λ i l ls y ys q rd n h o. rw (neq-false (λ (d : k ≡ y .key). e (same-key y ys (o .shown) ∙ sym d))))

@@ -1,18 +1,16 @@
 -- The desk's rows lead to the open batches' lines: what is asked of every batch is asked row by row.
-use Prim.Native.Nat.{ℕ, zero, suc, _+_, _-_, _≤_, _<_}
-use mathlib.Core.Path.{_≡_, refl, sym, ap, _∙_, subst}
+use Prim.Native.Nat.{ℕ, zero, suc, _+_, _≤_, _<_}
+use mathlib.Core.Path.{_≡_, refl, sym, ap, _∙_}
 use mathlib.Core.Bool.{Bool, true, false, not, _&&_, _||_}
 use mathlib.Core.List.{List, [], _∷_, map}
 use native.Mathlib.Omega.{arith}
 use native.Mathlib.Numerals.{add-one}
 use native.Mathlib.Decide.{decLt}
-use native.Mathlib.Nat.{le-refl}
 use lib.ListN.{length, getD, take, drop, drop-of-length-le, List·getD-eq-default}
 use lib.Seq.{take-length, drop-cons}
 use lib.Dec.{eqb, ltb, leb}
 use Rattle.base.specs.Tests.{any, every, eq-true, neq-false}
 use Rattle.layout.specs.declared.Row.{Row}
-use Rattle.layout.specs.Numbers.{tab}
 use Rattle.layout.specs.Desks.{no-row, row-at, eight-rows}
 use Rattle.layout.specs.Records.{Rec}
 use Rattle.model.specs.Batches.{Line, Batch, next-undo, row-of}

@@ -2,7 +2,6 @@
 use borrow.Author.Needs.{needs}
 use Rattle.chain.proofs.place.Statement.{statement}
 use Rattle.chain.proofs.place.Tie as tie
-use mathlib.Core.Path.{_∙_, sym}
 use Rattle.chain.specs.Steps.{place-zero, place-row}
 
 returns : tie.Need-returns

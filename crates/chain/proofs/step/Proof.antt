@@ -5,7 +5,6 @@ use Rattle.chain.proofs.step.Tie as tie
 use mathlib.Core.Path.{sym, subst}
 use mathlib.Core.Logic.{inl, inr}
 use native.Mathlib.Omega.{arith}
-use Prim.Native.Nat.{_≤_, _<_}
 use Rattle.chain.specs.Steps.{Steps}
 use Rattle.chain.specs.Ends.{passes}
 use Rattle.bytes.specs.Ranges.{past}

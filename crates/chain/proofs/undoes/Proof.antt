@@ -1,7 +1,7 @@
 -- `undoes`: by the tests in turn.
 use Rattle.chain.proofs.undoes.Statement.{statement}
 use Rattle.chain.proofs.undoes.Tie as tie
-use mathlib.Core.Path.{_≡_, sym, _∙_, ap}
+use mathlib.Core.Path.{sym, _∙_}
 use borrow.Author.Tests.{eq-eqb, ne-eqb}
 use Rattle.chain.specs.Undos.{other-key, other-left, insert-undone, delete-undone}
 

@@ -3,7 +3,6 @@ use Rattle.pending.proofs.held.Statement.{statement}
 use Rattle.pending.proofs.held.Tie as tie
 use borrow.Author.Needs.{needs}
 use Prim.Native.Nat.{_≤_, _-_}
-use native.Mathlib.Omega.{arith}
 use lib.Dec.{eqb}
 use Rattle.pending.specs.Rows.{DeskLeft, desk-start, desk-hit, desk-on, desk-end, held-is}
 

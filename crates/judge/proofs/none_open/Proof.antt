@@ -1,8 +1,8 @@
 -- `none_open`: no row is in use.
-use Rattle.chain.proofs.none_open.Statement.{statement}
-use Rattle.chain.proofs.none_open.Tie as tie
+use Rattle.judge.proofs.none_open.Statement.{statement}
+use Rattle.judge.proofs.none_open.Tie as tie
 use mathlib.Core.Path.{refl}
 use Rattle.chain.specs.Shown.{shows-none}
 
 returns : tie.Need-returns
 returns c = shows-none _ refl refl

@@ -1,12 +1,12 @@
 -- `pending_total`: the sum so far and that of the rest are the whole.
-use Rattle.chain.proofs.pending_total.Statement.{statement}
-use Rattle.chain.proofs.pending_total.Tie as tie
+use Rattle.judge.proofs.pending_total.Statement.{statement}
+use Rattle.judge.proofs.pending_total.Tie as tie
 use borrow.Author.Needs.{needs}
 use native.Mathlib.Omega.{arith}
 use Prim.Native.Nat.{_≤_, _-_, _+_, _*_}
-use mathlib.Core.Path.{_≡_, refl}
+use mathlib.Core.Path.{_≡_}
 use lib.ListN.{drop, length, length-map}
-use Rattle.chain.specs.Accepted.{total, total-more, total-end}
+use Rattle.judge.specs.Accepted.{total, total-more, total-end}
 
 abbrev Inv-loop : tie.InvT-loop
 Inv-loop d t₀ i₀ t i = (i ≤ 8) × (t ≤ 16384 * i) × (t + total (drop i (d .rows)) ≡ total (d .rows))

@@ -1,12 +1,11 @@
 -- `judge_log`: before slot i the records so far are in order and the rows show their batches.
-use Rattle.chain.proofs.judge_log.Statement.{statement}
-use Rattle.chain.proofs.judge_log.Tie as tie
+use Rattle.judge.proofs.judge_log.Statement.{statement}
+use Rattle.judge.proofs.judge_log.Tie as tie
 use borrow.Author.Needs.{needs}
 use Prim.Native.Nat.{_≤_, _-_}
-use native.Mathlib.Omega.{arith}
 use mathlib.Core.Path.{sym, _∙_}
 use borrow.Author.Tests.{not-true, not-false}
-use Rattle.chain.specs.Judging.{Going, going-start, going-low, going-on, going-off, ends-empty, ends-all}
+use Rattle.judge.specs.Judging.{Going, going-start, going-low, going-on, going-off, ends-empty, ends-all}
 
 abbrev Inv-loop : tie.InvT-loop
 Inv-loop log m n j₀ i₀ j i = (i ≤ m) × Going n m log i j

@@ -1,16 +1,15 @@
 -- The slots behind the last record: all empty just when their bytes are all zero.
 use Prim.Native.Nat.{ℕ, zero, suc, _+_, _-_, _*_, _≤_, _<_}
-use mathlib.Core.Path.{_≡_, refl, sym, ap, ap₂, _∙_, subst}
+use mathlib.Core.Path.{_≡_, refl, sym, ap, ap₂, _∙_}
 use mathlib.Core.Bool.{Bool, true, false, _&&_}
 use mathlib.Core.List.{List, [], _∷_, _++_}
 use native.Mathlib.Omega.{arith}
-use native.Mathlib.Nat.{mul-zero}
-use lib.ListN.{length, take, drop, length-drop, take-append-drop, replicate, length-replicate, replicate-append-replicate}
+use lib.ListN.{length, take, drop, length-drop, take-append-drop, length-replicate, replicate-append-replicate}
 use lib.Seq.{length-take-le, take-all, drop-drop}
 use lib.Dec.{eqb}
-use Rattle.base.specs.Tests.{every, Case, yes!, no!, case, eq-true}
+use Rattle.base.specs.Tests.{every, Case, yes!, no!, case}
 use Rattle.layout.specs.Numbers.{be32, same-bytes, zeros}
-use Rattle.layout.specs.RecordBytes.{Slot, empty, full, other, slot-size, record-bytes, record-fields, full-by, slot-by, read-slot}
+use Rattle.layout.specs.RecordBytes.{slot-size, record-bytes, record-fields, full-by, slot-by, read-slot}
 use Rattle.model.specs.Log.{is-empty}
 use Rattle.bytes.specs.Words.{part}
 use Rattle.bytes.specs.Pieces.{read-all}

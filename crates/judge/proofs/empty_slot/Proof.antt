@@ -1,15 +1,18 @@
--- `finished`: the rest is all zero.
+-- `empty_slot`: the lent part is all zero.
 use borrow.Author.Needs.{needs}
-use Rattle.chain.proofs.finished.Statement.{statement}
-use Rattle.chain.proofs.finished.Tie as tie
-use mathlib.Core.Path.{refl}
-use Rattle.chain.specs.Rest.{rest-found}
+use Rattle.judge.proofs.empty_slot.Statement.{statement}
+use Rattle.judge.proofs.empty_slot.Tie as tie
+use native.Mathlib.Nat.{add-sub-cancel-left}
+use Rattle.judge.specs.Rest.{slot-found}
 
 mul-is-zero : tie.Need-mul-is-zero
 mul-is-zero c = search needs
 
 mul-is-zero-2 : tie.Need-mul-is-zero-2
 mul-is-zero-2 c = search needs
+
+add-is-zero : tie.Need-add-is-zero
+add-is-zero c = search needs
 
 sub-is-zero : tie.Need-sub-is-zero
 sub-is-zero c = search needs
@@ -23,24 +26,21 @@ part-is-zero-end c = search needs
 is-zero-requires : tie.Need-is-zero-requires
 is-zero-requires c κs = search needs
 
-cast-t16 : tie.Need-cast-t16
-cast-t16 c = search needs
-
 returns : tie.Need-returns
 returns c =
-    let a = c .before .before .before .before .before .before .args in
-    let q = c .before .before .before .before .before .before .pre in
-    (rest-found _ (a .i) (a .m) (a .log .now) (q .0) (q .2) (c .before .before .before .is-zero .ensures), refl, refl)
+    let a = c .before .before .before .args in
+    let q = c .before .before .before .pre in
+    slot-found _ (a .i) (a .m) (a .log .now) (q .0) (q .2) (rw (add-sub-cancel-left _ _) at (c .is-zero .ensures))
 
-pub finished-spec : {M : Type 1} → statement M
-finished-spec =
+pub empty-slot-spec : {M : Type 1} → statement M
+empty-slot-spec =
     tie.close
     (tie.spec
     mul-is-zero
     mul-is-zero-2
+    add-is-zero
     sub-is-zero
     part-is-zero-start
     part-is-zero-end
     is-zero-requires
-    cast-t16
     returns)

@@ -1,29 +1,29 @@
 -- What is known of a log that was judged right: its records stand in the area, its open batches hold, and the desk's rows count their lines.
 use Prim.Native.Nat.{ℕ, zero, suc, _+_, _-_, _≤_, _<_}
-use mathlib.Core.Path.{_≡_, refl, sym, ap, ap₂, _∙_, subst}
-use mathlib.Core.Bool.{Bool, true, false, _&&_}
+use mathlib.Core.Path.{_≡_, refl, sym, ap, ap₂, _∙_}
+use mathlib.Core.Bool.{true, _&&_}
 use mathlib.Core.List.{List, [], _∷_, _++_, map}
 use native.Mathlib.Omega.{arith}
 use native.Mathlib.Numerals.{add-one}
-use lib.ListN.{length, getD, take, drop, replicate, length-map, drop-of-length-le}
+use lib.ListN.{length, take, drop, replicate, length-map, drop-of-length-le}
 use lib.Seq.{drop-cons}
 use lib.Dec.{eqb}
-use Rattle.base.specs.Tests.{every, clash, and-true, true-eq}
+use Rattle.base.specs.Tests.{clash, and-true, true-eq}
 use Rattle.layout.specs.declared.Row.{Row}
 use Rattle.layout.specs.Numbers.{tab}
 use Rattle.layout.specs.Desks.{no-row, row-at, eight-rows}
 use Rattle.layout.specs.Records.{Rec}
 use Rattle.layout.specs.RecordBytes.{Slot, empty, full, other}
 use Rattle.layout.specs.Rows.{row, names-pages}
-use Rattle.model.specs.Log.{slots-ok, records-of, slots-from, is-empty}
-use Rattle.model.specs.Batches.{Batch, row-of, open-batches, chain-ok, pending-count, desk-of}
+use Rattle.model.specs.Log.{slots-ok, records-of, slots-from}
+use Rattle.model.specs.Batches.{Batch, row-of, open-batches, chain-ok, pending-count}
 use Rattle.bytes.specs.Tables.{getD-tab-of}
 use Rattle.slot.specs.Areas.{slots-of}
 use Rattle.lines.specs.Reading.{Reads, reads-few}
 use Rattle.lines.specs.Holding.{Holds, holds-open}
 use Rattle.chain.specs.declared.Judged.{Judged}
 use Rattle.chain.specs.Eights.{padded}
-use Rattle.chain.specs.Judging.{Judgement, pending-at}
+use Rattle.judge.specs.Judging.{Judgement, pending-at}
 
 slots-read : (n k : ℕ) (s : List Slot) → slots-ok n k s ≡ true → take (length (records-of s)) s ≡ slots-from k (records-of s)
 unfolding slots-ok records-of slots-from

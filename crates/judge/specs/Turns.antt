@@ -1,30 +1,28 @@
 -- One slot of the log, judged: its number, its row, its pages, and its record's step.
-use Prim.Native.Nat.{ℕ, zero, suc, _+_, _*_, _≤_, _<_}
+use Prim.Native.Nat.{ℕ, suc, _*_}
 use mathlib.Core.Path.{_≡_, refl, sym, ap, _∙_, subst}
 use mathlib.Core.Bool.{Bool, true, false, _&&_}
-use mathlib.Core.List.{List, [], _∷_, _++_}
-use native.Mathlib.Omega.{arith}
+use mathlib.Core.List.{List}
 use lib.ListN.{length}
 use lib.Dec.{eqb}
 use Rattle.base.specs.Tests.{clash, eq-true, neq-false}
 use Rattle.layout.specs.declared.Entry.{Entry}
-use Rattle.layout.specs.Records.{Rec, Kind, kind-of, kind-number}
+use Rattle.layout.specs.Records.{Rec, kind-of, kind-number}
 use Rattle.layout.specs.RecordBytes.{Slot, empty, full, other, slot-size, read-slot}
 use Rattle.layout.specs.Rows.{row, names-pages}
 use Rattle.model.specs.Batches.{Batch, tell, chain-step}
 use Rattle.bytes.specs.Words.{part}
 use Rattle.slot.specs.declared.Header.{Header}
-use Rattle.slot.specs.declared.Header.the-variants.{Full, Empty, Broken}
+use Rattle.slot.specs.declared.Header.the-variants.{Full}
 use Rattle.slot.specs.Typed.{rec-of, typed-by}
 use Rattle.slot.specs.Codec.{kind-back}
 use Rattle.row.specs.Kept.{row-kept, pages-kept, row-kept-full, pages-kept-full}
 use Rattle.chain.specs.declared.Judged.{Judged}
-use Rattle.chain.specs.declared.Told.{Told}
 use Rattle.lines.specs.Holding.{Holds}
 use Rattle.lines.specs.Reading.{Reads}
 use Rattle.chain.specs.Shown.{Shows}
-use Rattle.chain.specs.Steps.{Tells, Stepped}
+use Rattle.chain.specs.Steps.{Stepped}
 use Rattle.chain.specs.Undos.{StepsIn}
 
 -- What a slot that should hold record k of a register of n pages makes of the batches.
 unfoldable pub Turned : ℕ → ℕ → Slot → List Batch → Judged → Type 0

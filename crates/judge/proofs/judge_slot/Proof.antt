@@ -1,12 +1,12 @@
 -- `judge_slot`: no record, another number, a broken row, pages that are none, or the record's step.
 use borrow.Author.Needs.{needs}
-use Rattle.chain.proofs.judge_slot.Statement.{statement}
-use Rattle.chain.proofs.judge_slot.Tie as tie
+use Rattle.judge.proofs.judge_slot.Statement.{statement}
+use Rattle.judge.proofs.judge_slot.Tie as tie
 use mathlib.Core.Path.{sym, _∙_}
 use native.Mathlib.Omega.{arith}
 use borrow.Author.Tests.{not-true, not-false}
-use Rattle.chain.proofs.NotFull.{no-record}
-use Rattle.chain.specs.Turns.{turned-none, other-number, broken-row, broken-pages, turned-step}
+use Rattle.judge.proofs.NotFull.{no-record}
+use Rattle.judge.specs.Turns.{turned-none, other-number, broken-row, broken-pages, turned-step}
 
 mul-read-at : tie.Need-mul-read-at
 mul-read-at c = search needs

@@ -1,5 +1,5 @@
 -- A slot that is not full holds no record: what the `let .. else` that takes a full one apart leaves to show in its `else`.
-use mathlib.Core.Path.{_≡_, sym, _∙_}
+use mathlib.Core.Path.{_≡_}
 use mathlib.Core.List.{List, [], _∷_}
 use Prim.Native.Nat.{ℕ}
 use native.Mathlib.Omega.{arith}
@@ -7,7 +7,7 @@ use types.Run.{OneOf, miss}
 use denote.Enum.Declared.{tagOf}
 use Rattle.layout.specs.declared.Entry.{Entry}
 use Rattle.layout.specs.Records.{Rec}
-use Rattle.layout.specs.RecordBytes.{Slot, full, empty, other}
+use Rattle.layout.specs.RecordBytes.{Slot, full}
 use Rattle.slot.specs.declared.Header.{Header}
 use Rattle.slot.specs.declared.Header.the-variants.{Full, Empty, Broken}
 use Rattle.slot.specs.Typed.{typed-by}

@@ -1,17 +1,15 @@
 -- The log judged slot by slot: what is known before a slot, the turn over it, and the three ways out.
-use Prim.Native.Nat.{ℕ, zero, suc, _+_, _-_, _*_, _≤_, _<_}
+use Prim.Native.Nat.{ℕ, zero, suc, _+_, _*_, _≤_, _<_}
 use mathlib.Core.Path.{_≡_, refl, sym, ap, ap₂, _∙_, subst}
 use mathlib.Core.Bool.{Bool, true, false, _&&_}
 use mathlib.Core.List.{List, [], _∷_, _++_, map}
 use native.Mathlib.Omega.{arith}
 use native.Mathlib.Numerals.{add-one}
-use lib.ListN.{length, getD, take, drop, length-append, length-map, drop-of-length-le}
+use lib.ListN.{length, take, drop, length-append, length-map, drop-of-length-le}
 use lib.Seq.{drop-cons, take-suc}
 use lib.Dec.{eqb}
 use Rattle.base.specs.Tests.{every, clash, and-true, true-eq, eq-true}
 use Rattle.layout.specs.declared.Row.{Row}
-use Rattle.layout.specs.declared.Desk.{Desk}
-use Rattle.layout.specs.Numbers.{tab}
 use Rattle.layout.specs.Desks.{no-row, row-at, eight-rows}
 use Rattle.layout.specs.Records.{Rec}
 use Rattle.layout.specs.RecordBytes.{Slot, empty, full, other, slot-size, read-slot}
@@ -22,14 +20,13 @@ use Rattle.bytes.specs.Words.{part}
 use Rattle.bytes.specs.Pieces.{read-all-at, read-all-length}
 use Rattle.bytes.specs.Tables.{getD-tab-of}
 use Rattle.slot.specs.Areas.{slots-of}
 use Rattle.chain.specs.declared.Judged.{Judged}
 use Rattle.lines.specs.Holding.{Holds, holds-none, holds-step}
 use Rattle.lines.specs.Reading.{Reads, reads-few}
 use Rattle.chain.specs.Eights.{eight}
 use Rattle.chain.specs.Shown.{Shows, marks-of}
-use Rattle.chain.specs.Steps.{Stepped}
 use Rattle.chain.specs.Families.{Low}
-use Rattle.chain.specs.Turns.{Turned, Turns}
+use Rattle.judge.specs.Turns.{Turned, Turns}
 
 -- THE JUDGEMENT of the slots s of a register of n pages.
 pub record Judgement (n : ℕ) (s : List Slot) (r : Judged) : Type 0 where

@@ -1,0 +1,4 @@
+pub mod Turns
+pub mod Rest
+pub mod Judging
+pub mod Accepted

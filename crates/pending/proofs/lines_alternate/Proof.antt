@@ -1,0 +1,69 @@
+-- `lines_alternate`: so far each alternates with the newest below it.
+use Rattle.pending.proofs.lines_alternate.Statement.{statement}
+use Rattle.pending.proofs.lines_alternate.Tie as tie
+use borrow.Author.Needs.{needs}
+use native.Mathlib.Omega.{arith}
+use borrow.Author.Tests.{not-true, not-false}
+use Rattle.pending.specs.Alternating.{AlternateLeft, alternate-start, alternate-end, alternate-off, alternate-on}
+
+abbrev Inv-loop : tie.InvT-loop
+Inv-loop log m from count at₀ left₀ at left = AlternateLeft m log from count at left
+
+abbrev μ-loop : tie.MeasureT-loop
+μ-loop log m from count at₀ left₀ at left = left
+
+loop-holds : tie.Need-loop-holds Inv-loop μ-loop
+loop-holds c = let a = c .before .args in alternate-start (a .m) (a .log .now) (a .from) (a .count)
+
+line-at-requires : tie.Need-line-at-requires Inv-loop μ-loop
+line-at-requires c κs = search needs
+
+sub-newest-on : tie.Need-sub-newest-on Inv-loop μ-loop
+sub-newest-on c = search needs
+
+newest-on-requires : tie.Need-newest-on-requires Inv-loop μ-loop
+newest-on-requires c κs = search needs
+
+alternates-requires : tie.Need-alternates-requires Inv-loop μ-loop
+alternates-requires c κs = search needs
+
+returns : tie.Need-returns Inv-loop μ-loop
+returns c =
+    let a = c .before .before .before .before .before .before .before .args in
+    let l = c .before .before .before .before .before .loop in
+    alternate-off (a .m) (a .log .now) (a .from) (a .count) (l .at) (l .left) (l .inv) (λ z. omega (arith, z, c .before .before .before .before .loop-test .taken)) _ (c .before .before .before .line-at .ensures) _ (c .before .before .newest-on .ensures) _ (c .before .alternates .ensures) (not-true _ (c .if1 .taken))
+
+sub-left : tie.Need-sub-left Inv-loop μ-loop
+sub-left c = search needs
+
+loop-less : tie.Need-loop-less Inv-loop μ-loop
+loop-less c = search needs
+
+loop-again : tie.Need-loop-again Inv-loop μ-loop
+loop-again c =
+    let a = c .before .before .before .before .before .before .before .args in
+    let l = c .before .before .before .before .before .loop in
+    alternate-on (a .m) (a .log .now) (a .from) (a .count) (l .at) (l .left) (l .inv) (λ z. omega (arith, z, c .before .before .before .before .loop-test .taken)) _ (c .before .before .before .line-at .ensures) _ (c .before .before .newest-on .ensures) _ (c .before .alternates .ensures) (not-false _ (c .if1 .left))
+
+returns-2 : tie.Need-returns-2 Inv-loop μ-loop
+returns-2 c =
+    let a = c .before .before .before .args in
+    let l = c .before .loop in
+    alternate-end (a .m) (a .log .now) (a .from) (a .count) (l .at) (l .left) (l .inv) (omega (arith, c .loop-test .left))
+
+pub lines-alternate-spec : {M : Type 1} → statement M
+lines-alternate-spec =
+    tie.close
+    (tie.spec
+    Inv-loop
+    μ-loop
+    loop-holds
+    line-at-requires
+    sub-newest-on
+    newest-on-requires
+    alternates-requires
+    returns
+    sub-left
+    loop-less
+    loop-again
+    returns-2)
