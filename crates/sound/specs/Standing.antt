@@ -1,0 +1,92 @@
+-- WHERE A REGISTER STANDS: whether it is sound, and what a call knows of one that is.
+use Prim.Native.Nat.{ℕ, _≤_}
+use mathlib.Core.Path.{_≡_, sym, _∙_}
+use mathlib.Core.Bool.{true, false}
+use mathlib.Core.List.{List, map}
+use native.Mathlib.Omega.{arith}
+use lib.ListN.{length, take}
+use Rattle.base.specs.Tests.{clash}
+use Rattle.layout.specs.declared.Desk.{Desk}
+use Rattle.layout.specs.Desks.{eight-rows}
+use Rattle.layout.specs.Pages.{Page}
+use Rattle.layout.specs.Records.{Rec}
+use Rattle.model.specs.Areas as areas
+use Rattle.model.specs.Log.{records-of}
+use Rattle.model.specs.Batches.{open-batches, row-of, desk-of, pending-count}
+use Rattle.model.specs.TreeRules.{free-pages}
+use Rattle.model.specs.Sound.{sound}
+use Rattle.model.specs.Calls.{run-of}
+use Rattle.model.specs.OnBytes.{read-pages, read-log, read-areas}
+use Rattle.desk.specs.Rows.{place-of}
+use Rattle.lines.specs.Reading.{Reads, reads-few}
+use Rattle.lines.specs.Holding.{Holds}
+use Rattle.chain.specs.Eights.{eight}
+use Rattle.chain.specs.Shown.{marks-of}
+use Rattle.area_laws.specs.Logs.{HoldsLog, AllFit}
+use Rattle.lend.specs.Lent.{lent}
+use Rattle.redo.specs.Pages.{Pages}
+use Rattle.run.specs.Shows.{Shows}
+use Rattle.pending.specs.Rows as rows
+use Rattle.sound.specs.declared.Standing.{Standing}
+use Rattle.sound.specs.Rows.{OpenRow, LiveRow, Opens, Lives, rows-counted}
+
+-- The pages and the log that areas show, as the definitions read them.
+abbrev pub pages-in : List ℕ → List Page
+pages-in wp = areas.pages-of (read-pages wp)
+
+abbrev pub log-in : List ℕ → List Rec
+log-in wl = records-of (read-log wl)
+
+-- KNOWN of a sound register of n pages and m slots that shows these pages and this log.
+pub record Known (n m : ℕ) (wp wl sl : List ℕ) (d : Desk) (r : Standing) (xs : List Page) (l : List Rec) : Type 0 where
+  -- The areas.
+  pub pages : Pages n wp xs
+  pub log : HoldsLog wl l
+  pub stable : HoldsLog sl (take (d .stored) l)
+  pub fits : AllFit 1 l
+  pub shows : (sp : List ℕ) → Shows n m wp wl (record { logged = d .logged; stop = 0 }) (run-of (read-areas (lent wp sp wl sl)))
+  -- The log's lines and batches.
+  pub reads : Reads m wl l
+  pub holds : Holds l (open-batches l)
+  -- The desk.
+  pub desk : d ≡ desk-of l (d .stored)
+  pub rows : d .rows ≡ eight-rows (map row-of (open-batches l))
+  pub logged : d .logged ≡ length l
+  pub stored : d .stored ≤ length l
+  -- What is beside it.
+  pub marked : r .marked ≡ eight false (marks-of (open-batches l))
+  pub pending : r .pending ≡ pending-count (open-batches l)
+  pub free : r .free ≡ free-pages xs
+
+pub record Stands (n m : ℕ) (wp wl sl : List ℕ) (d : Desk) (r : Standing) : Type 0 where
+  pub ok : (sp : List ℕ) → r .ok ≡ sound (read-areas (lent wp sp wl sl)) d
+  pub known : r .ok ≡ true → Known n m wp wl sl d r (pages-in wp) (log-in wl)
+
+pub stands-not : (n m : ℕ) (wp wl sl : List ℕ) (d : Desk) (r : Standing) → r .ok ≡ false → ((sp : List ℕ) → sound (read-areas (lent wp sp wl sl)) d ≡ false) → Stands n m wp wl sl d r
+stands-not n m wp wl sl d r f un = record { ok = λ sp. f ∙ sym (un sp); known = λ z. clash (sym z ∙ f) }
+
+-- ---- what calls ask of it
+
+module _ {n m : ℕ} {wp wl sl : List ℕ} {d : Desk} {r : Standing} {xs : List Page} {l : List Rec} (k : Known n m wp wl sl d r xs l) where
+  -- Whether a key is held.
+  pub known-rows : rows.Known m wl (d .rows) l (open-batches l)
+  known-rows = record { reads = k .reads; holds = k .holds; rows = k .rows }
+
+  -- The place of an open batch.
+  pub known-open : (b p : ℕ) → Opens (d .rows) b p → OpenRow (d .rows) (open-batches l) b p
+  known-open b p o = o l (open-batches l) (k .holds) (k .rows)
+
+  pub known-live : (b p : ℕ) → Lives (d .rows) (r .marked) b p → LiveRow (d .rows) (open-batches l) b p
+  known-live b p o = o l (open-batches l) (k .holds) (k .rows) (k .marked)
+
+  -- The numbers that reserves are judged by, and their bounds.
+  pub known-used : place-of 0 (d .rows) ≡ length (open-batches l)
+  known-used = rows-counted d l (open-batches l) (k .holds) (k .rows)
+
+  pub known-low : m ≤ 16384 → (d .logged ≤ 16384) × (r .pending ≤ 16384) × (place-of 0 (d .rows) ≤ 8)
+  known-low few =
+      let few-records : length l ≤ m = reads-few m wl l (k .reads) in (
+        omega (arith, k .logged),
+        omega (arith, k .pending, k .holds .count),
+        omega (arith, known-used, k .holds .few),
+      )
