@@ -10,10 +10,11 @@ use lib.ListN.{length, length-append}
 use lib.Dec.{leb, eqb}
 use Rattle.base.specs.Tests.{eq-true, neq-false, le-true, le-false}
 use Rattle.layout.specs.Pages.{Page}
-use Rattle.layout.specs.Records.{Rec}
+use Rattle.layout.specs.Records.{Rec, Kind, batch-row}
 use Rattle.layout.specs.RecordBytes.{slot-size, full, record-bytes, slot-bytes}
 use Rattle.model.specs.Log.{slots-from}
-use Rattle.model.specs.Redo.{redo-record}
+use Rattle.model.specs.Change.{changes, shape}
+use Rattle.model.specs.Redo.{when-named, places, redo-places, redo-record}
 use Rattle.model.specs.Update.{Run, going, stopped, logged, emit-by, emit, fresh, taking-by, emit-taking}
 use Rattle.model.specs.OnBytes.{joined, log-bytes, put-part}
 use Rattle.bytes.specs.Patch.{patch}
@@ -104,3 +105,16 @@ emit-logs {n} {m} {wp} {wp′} {wl} {wl′} {t} {s} h r k e l d w z p =
       slots = h .slots;
       stop = refl;
     })
+
+-- A record that changes no page leaves them as they are.
+quiet-pages : (kind : Kind) (batch previous k : ℕ) (xs : List Page) → shape kind ≡ changes false false false false → redo-record k (batch-row kind batch previous) xs ≡ xs
+unfolding redo-record places when-named redo-places
+quiet-pages kind batch previous k xs e = rw e
+
+pub emit-notes : {n m : ℕ} {wp wl wl′ : List ℕ} {t : program.Run} {s : Run} (h : Shows n m wp wl t s) (kind : Kind) (batch previous : ℕ) (r : Rec) (k : ℕ)
+    → shape kind ≡ changes false false false false → t .stop ≡ 0 → t .logged < m → k ≡ suc (t .logged) → r ≡ batch-row kind batch previous
+    → wl′ ≡ patch wl (slot-size * t .logged) (record-bytes (suc (t .logged)) r) → length wl′ ≡ length wl
+    → Shows n m wp wl′ (record { logged = k; stop = 0 }) (emit (batch-row kind batch previous) s)
+emit-notes {n} {m} {wp} {wl} {wl′} {t} {s} h kind batch previous r k q e l d i w z =
+    emit-logs h (batch-row kind batch previous) k e l d (w ∙ ap (λ (x : Rec). patch wl (slot-size * t .logged) (record-bytes (suc (t .logged)) x)) i) z
+    (subst (Pages n wp) (sym (quiet-pages kind batch previous k (s .pages) q)) (h .pages))

@@ -3,16 +3,19 @@ use change::Record;
 use map::highest_free;
 use redo::page_at;
 use redo::redo_record;
+use rows::batch_row;
 use slot::Header;
 use slot::Slot;
 use slot::write_at;
 ghost use mathlib.Core.Path.{_≡_};
+ghost use mathlib.Core.Bool.{false};
 ghost use mathlib.Core.List.{List};
 ghost use Prim.Native.Nat.{ℕ, suc, _*_, _≤_, _<_};
 ghost use lib.ListN.{length};
 ghost use Rattle.layout.specs.Pages.{Page};
-ghost use Rattle.layout.specs.Records.{Rec};
+ghost use Rattle.layout.specs.Records.{Rec, kind-of, batch-row};
 ghost use Rattle.layout.specs.RecordBytes.{record-bytes};
+ghost use Rattle.model.specs.Change.{changes, shape};
 ghost use Rattle.model.specs.Update as model;
 ghost use Rattle.bytes.specs.Patch.{patch};
 ghost use Rattle.change.specs.Pages.{rec};
@@ -66,6 +69,30 @@ pub fn emit(wp: &mut [u8], wl: &mut [u8], n: usize, m: usize, t: Run, r: Record)
     write_record(wl, t.logged, r);
     redo_record(wp, n, r, k);
     Run { logged: k, stop: 0 }
+}
+
+// A record that changes no page (a begin, a commit, an abort mark, an end) is logged, if there is a slot for it.
+pub fn note(wl: &mut [u8], m: usize, t: Run, kind: u32, batch: u32, previous: u32) -> Run
+    requires { ⌜ (length (now wl) ≡ 144 * m) × (m ≤ 16384) × (shape (kind-of kind) ≡ changes false false false false) ⌝ }
+    ensures { λ u.
+        ⌜ (t .logged ≤ u .logged) × (t .logged ≤ m → u .logged ≤ m)
+        × ((n : ℕ) (wp : List ℕ) (s : model.Run) → Shows n m wp (now (wl .entry)) t s → Shows n m wp (now (wl .exit)) u (model.emit (batch-row (kind-of kind) batch previous) s)) ⌝ }
+{
+    if t.stop != 0 {
+        return t;
+    }
+    if t.logged as usize >= m {
+        return Run {
+            logged: t.logged,
+            stop: 17,
+        };
+    }
+    let r = batch_row(kind, batch, previous);
+    write_record(wl, t.logged, r);
+    Run {
+        logged: t.logged + 1,
+        stop: 0,
+    }
 }
 
 // The page taken, of n: the free one with the highest number, or 0 if there is none.
