@@ -1,0 +1,34 @@
+-- `end_batch`: the record before is the last one.
+use borrow.Author.Needs.{needs}
+use Rattle.undo.proofs.end_batch.Statement.{statement}
+use Rattle.undo.proofs.end_batch.Tie as tie
+use lib.Dec.{lit<}
+use Rattle.undo.specs.Lines.{batch-keeping, end-last}
+
+batch-row-requires : tie.Need-batch-row-requires
+batch-row-requires c κs = search needs
+
+emit-requires : tie.Need-emit-requires
+emit-requires c κs = search needs
+
+same-length : tie.Need-same-length
+same-length c = search needs
+
+same-length-2 : tie.Need-same-length-2
+same-length-2 c = search needs
+
+returns : tie.Need-returns
+returns c s h =
+    let a = c .before .before .before .before .before .before .before .before .before .before .args in
+    let e = c .before .before .before .before .before .before .before .batch-row .ensures .0 in
+    end-last h (a .batch) _ e (c .before .before .before .before .emit .ensures s h (batch-keeping (a .t) 8 (a .batch) (a .t .logged) _ (c .before .before .before .before .before .before .before .before .before .before .pre .3) (lit< tt) e))
+
+pub end-batch-spec : {M : Type 1} → statement M
+end-batch-spec =
+    tie.close
+    (tie.spec
+    batch-row-requires
+    emit-requires
+    same-length
+    same-length-2
+    returns)
