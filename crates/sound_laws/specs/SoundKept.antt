@@ -10,7 +10,7 @@ use lib.Dec.{leb, eqb}
 use Rattle.base.specs.Tests.{clash, and-true, true-le, false-le, eq-true}
 use Rattle.layout.specs.declared.Entry.{Entry}
 use Rattle.layout.specs.declared.Desk.{Desk}
-use Rattle.layout.specs.Entries.{top, look}
+use Rattle.layout.specs.Entries.{top, look, insert-sorted, remove-key}
 use Rattle.layout.specs.Pages.{Page, at, map-bits}
 use Rattle.layout.specs.Records
 use Rattle.layout.specs.Records.{Rec, batch-row, data-row}
@@ -119,6 +119,39 @@ module _ (a : Areas) (d : Desk) (few : length (a .work .pages) ≤ map-bits) (eq
 
   -- ---- insert and delete
 
+  absent-there : (k : ℕ) → k ≤ top → fetched k (work-pages a) ≡ none → look k (leaf-records (run-of a .pages)) ≡ none
+  absent-there k kt ab = sym (fetched-is k (run-of a .pages) (core .tree) kt) ∙ ap (fetched k) pages-are ∙ ab
+
+  found-there : (k v : ℕ) → k ≤ top → fetched k (work-pages a) ≡ some v → look k (leaf-records (run-of a .pages)) ≡ some v
+  found-there k v kt th = sym (fetched-is k (run-of a .pages) (core .tree) kt) ∙ ap (fetched k) pages-are ∙ th
+
+  -- An update that finds its slots and pages runs to its end.
+  pub insert-runs : (b previous k v : ℕ) → k ≤ top → fetched k (work-pages a) ≡ none
+      → update-has-slots (work-slots a) (work-log a) (work-open a) ≡ true → update-has-pages (work-pages a) (work-open a) ≡ true
+      → Kept (run-of a) (put-record Records.insert b previous k v (run-of a)) (insert-sorted k v (leaf-records (run-of a .pages)))
+  unfolding update-has-slots update-has-pages reserve
+  insert-runs b previous k v kt ab p q =
+      let x = true-le (length (work-log a) + 32 + (32 * suc (pending-count (work-open a)) + 2 * length (work-open a))) (work-slots a) p in
+      let w = true-le (7 + 7 * suc (pending-count (work-open a))) (length (work-pages a) - used-pages (work-pages a)) q in
+      let di = due-is in
+      let ls = slots-are in
+      let pa : used-pages (run-of a .pages) ≡ used-pages (work-pages a) = ap used-pages pages-are in
+      let pl : length (run-of a .pages) ≡ length (work-pages a) = ap length pages-are in
+      put-law Records.insert b previous k v (run-of a) (core-ready n most (run-of a) sl core) kt by-insert (absent-there k kt ab) (omega arith) (omega arith)
+
+  pub delete-runs : (b previous k v : ℕ) → k ≤ top → fetched k (work-pages a) ≡ some v
+      → update-has-slots (work-slots a) (work-log a) (work-open a) ≡ true → update-has-pages (work-pages a) (work-open a) ≡ true
+      → Kept (run-of a) (remove-record Records.delete b previous k v (run-of a)) (remove-key k (leaf-records (run-of a .pages)))
+  unfolding update-has-slots update-has-pages reserve
+  delete-runs b previous k v kt th p q =
+      let x = true-le (length (work-log a) + 32 + (32 * suc (pending-count (work-open a)) + 2 * length (work-open a))) (work-slots a) p in
+      let w = true-le (7 + 7 * suc (pending-count (work-open a))) (length (work-pages a) - used-pages (work-pages a)) q in
+      let di = due-is in
+      let ls = slots-are in
+      let pa : used-pages (run-of a .pages) ≡ used-pages (work-pages a) = ap used-pages pages-are in
+      let pl : length (run-of a .pages) ≡ length (work-pages a) = ap length pages-are in
+      remove-law Records.delete b previous k v v (run-of a) (core-ready n most (run-of a) sl core) kt by-delete (found-there k v kt th) (omega arith) (omega arith)
+
   pub insert-sound : (b k v : ℕ) (y : Batch) → k ≤ top → v ≤ top → find-batch b (work-open a) ≡ some y → y .marked ≡ false → held b k (work-open a) ≡ false → fetched k (work-pages a) ≡ none
       → update-has-slots (work-slots a) (work-log a) (work-open a) ≡ true → update-has-pages (work-pages a) (work-open a) ≡ true
       → sound (record { work = run-side (put-record Records.insert b (y .last) k v (run-of a)); stable = a .stable }) (desk-of (put-record Records.insert b (y .last) k v (run-of a) .log) (d .stored)) ≡ true
@@ -126,14 +159,8 @@ module _ (a : Areas) (d : Desk) (few : length (a .work .pages) ≤ map-bits) (eq
   insert-sound b k v y kt vt f u hd ab p q =
       let f′ : find-batch b (open-batches (run-of a .log)) ≡ some y = subst (λ z. find-batch b z ≡ some y) (sym opens) f in
       let hd′ : held b k (open-batches (run-of a .log)) ≡ false = subst (λ z. held b k z ≡ false) (sym opens) hd in
-      let ab′ : look k (leaf-records (run-of a .pages)) ≡ none = sym (fetched-is k (run-of a .pages) (core .tree) kt) ∙ ap (fetched k) pages-are ∙ ab in
-      let x = true-le (length (work-log a) + 32 + (32 * suc (pending-count (work-open a)) + 2 * length (work-open a))) (work-slots a) p in
-      let w = true-le (7 + 7 * suc (pending-count (work-open a))) (length (work-pages a) - used-pages (work-pages a)) q in
-      let di = due-is in
-      let ls = slots-are in
-      let pa : used-pages (run-of a .pages) ≡ used-pages (work-pages a) = ap used-pages pages-are in
-      let pl : length (run-of a .pages) ≡ length (work-pages a) = ap length pages-are in
-      let kp = put-law Records.insert b (y .last) k v (run-of a) (core-ready n most (run-of a) sl core) kt by-insert ab′ (omega arith) (omega arith) in
+      let ab′ : look k (leaf-records (run-of a .pages)) ≡ none = absent-there k kt ab in
+      let kp = insert-runs b (y .last) k v kt ab p q in
       let (page, up) = put-updated n most Records.insert b (y .last) k v (run-of a) sl core by-insert kt ab′ (λ g. insert-data n (run-of a) sl core b y f′ k v g u kt vt hd′ ab′) (kp .ready .goes) in
       let du = kp .due in
       let fr = kp .few-records in
@@ -146,14 +173,8 @@ module _ (a : Areas) (d : Desk) (few : length (a .work .pages) ≤ map-bits) (eq
   delete-sound b k v y kt f u hd th p q =
       let f′ : find-batch b (open-batches (run-of a .log)) ≡ some y = subst (λ z. find-batch b z ≡ some y) (sym opens) f in
       let hd′ : held b k (open-batches (run-of a .log)) ≡ false = subst (λ z. held b k z ≡ false) (sym opens) hd in
-      let th′ : look k (leaf-records (run-of a .pages)) ≡ some v = sym (fetched-is k (run-of a .pages) (core .tree) kt) ∙ ap (fetched k) pages-are ∙ th in
-      let x = true-le (length (work-log a) + 32 + (32 * suc (pending-count (work-open a)) + 2 * length (work-open a))) (work-slots a) p in
-      let w = true-le (7 + 7 * suc (pending-count (work-open a))) (length (work-pages a) - used-pages (work-pages a)) q in
-      let di = due-is in
-      let ls = slots-are in
-      let pa : used-pages (run-of a .pages) ≡ used-pages (work-pages a) = ap used-pages pages-are in
-      let pl : length (run-of a .pages) ≡ length (work-pages a) = ap length pages-are in
-      let kp = remove-law Records.delete b (y .last) k v v (run-of a) (core-ready n most (run-of a) sl core) kt by-delete th′ (omega arith) (omega arith) in
+      let th′ : look k (leaf-records (run-of a .pages)) ≡ some v = found-there k v kt th in
+      let kp = delete-runs b (y .last) k v kt th p q in
       let (page, up) = remove-updated n most Records.delete b (y .last) k v v (run-of a) sl core by-delete kt th′ (λ g. delete-data n (run-of a) sl core b y f′ k v g u kt hd′ th′) (kp .ready .goes) in
       let du = kp .due in
       let fr = kp .few-records in

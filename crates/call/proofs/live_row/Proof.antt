@@ -1,0 +1,34 @@
+-- `live_row`: there is no row, it has its mark, or it is live.
+use borrow.Author.Needs.{needs}
+use Rattle.call.proofs.live_row.Statement.{statement}
+use Rattle.call.proofs.live_row.Tie as tie
+use mathlib.Core.Path.{_≡_, sym, _∙_, ap, subst}
+use mathlib.Core.Logic.{inl, inr}
+use mathlib.Core.Bool.{Bool, true, false}
+use mathlib.Core.List.{List}
+use Prim.Native.Nat.{ℕ, _≤_, _<_}
+use native.Mathlib.Omega.{arith}
+use lib.ListN.{getD}
+use Rattle.call.specs.Given.{live-8-none, live-8-marked, live-there}
+
+open-row-requires : tie.Need-open-row-requires
+open-row-requires c κs = search needs
+
+returns : tie.Need-returns
+returns c = let a = c .before .before .args in (search needs, live-8-none (a .d .rows) (a .t2) (a .b) (sym (c .before .open-row .ensures .0) ∙ c .if1 .taken))
+
+array-read-if2 : tie.Need-array-read-if2
+array-read-if2 c = search needs
+
+returns-2 : tie.Need-returns-2
+returns-2 c =
+    let a = c .before .before .before .args in
+    (search needs, live-8-marked (a .d .rows) (a .t2) (a .b) _ (c .before .before .open-row .ensures .0) (omega (arith, c .before .if1 .left, c .before .before .open-row .ensures .1)) (c .if2 .taken))
+
+returns-3 : tie.Need-returns-3
+returns-3 c =
+    let a = c .before .before .before .args in
+    (c .before .before .open-row .ensures .1, live-there (a .d .rows) (a .t2) (a .b) _ (c .before .before .open-row .ensures .0) (omega (arith, c .before .if1 .left, c .before .before .open-row .ensures .1)) (c .if2 .left))
+
+pub live-row-spec : {M : Type 1} → statement M
+live-row-spec = tie.close (tie.spec open-row-requires returns array-read-if2 returns-2 returns-3)

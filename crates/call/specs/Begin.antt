@@ -1,0 +1,80 @@
+-- Begin, reply by reply.
+use mathlib.Core.Path.{_≡_, refl, ap, sym, _∙_, subst}
+use Prim.Native.Nat.{ℕ, suc, _+_, _*_, _<_, _≤_}
+use native.Mathlib.Omega.{arith}
+use mathlib.Core.Bool.{Bool, true, false}
+use mathlib.Core.List.{List, [], _∷_}
+use lib.ListN.{length, set, length-append}
+use lib.Dec.{leb}
+use Rattle.base.specs.Tests.{le-true, le-false, true-le}
+use Rattle.layout.specs.declared.Desk.{Desk}
+use Rattle.layout.specs.Records as records
+use Rattle.layout.specs.Records.{batch-row}
+use Rattle.model.specs.declared.Refusal.the-variants.{EightOpen, SlotsShort}
+use Rattle.model.specs.declared.Answer.{Answer}
+use Rattle.model.specs.declared.Answer.the-variants.{Number, Refused}
+use Rattle.model.specs.Batches.{pending-count}
+use Rattle.model.specs.Update.{emit}
+use Rattle.model.specs.Sound.{reserve, work-pages, work-log, work-slots, work-open, begin-has-slots, update-has-slots, update-has-pages}
+use Rattle.model.specs.Calls.{run-of}
+use Rattle.model.specs.OnBytes.{begin, outcome, read-areas}
+use Rattle.checks.specs.Reserves.{begin-slots-by, update-slots-by, update-pages-by}
+use Rattle.lend.specs.Lent.{lent}
+use Rattle.desk.specs.Rows.{place-of, new-row}
+use Rattle.desk_laws.specs.Runs.{begin-desk}
+use Rattle.update_laws.specs.Way.{emit-goes}
+use Rattle.run.specs.declared.Run as run
+use Rattle.run.specs.Shows.{Shows}
+use Rattle.replies.specs.declared.Reply.{Reply}
+use Rattle.replies.specs.Replies.{Replies, left-alone, left-run}
+use Rattle.sound.specs.declared.Standing.{Standing}
+use Rattle.call.specs.Checked.{begin-eight, begin-short, begin-goes}
+use Rattle.call.specs.Given.{Given, areas, given-chain, given-slots, open-count}
+
+module _ {n m : ℕ} {wp sp wl sl : List ℕ} {d : Desk} {st : Standing} (g : Given n m wp sp wl sl d st) where
+  -- The formulas on the desk's numbers.
+  pub begin-slots : begin-has-slots (work-slots (areas g)) (work-log (areas g)) (work-open (areas g)) ≡ begin-slots-by m (d .logged) (st .pending) (place-of 0 (d .rows))
+  unfolding begin-has-slots read-areas
+  begin-slots = sym (rw (← given-slots g, g .known .logged, g .known .pending, open-count g))
+
+  pub update-slots : update-has-slots (work-slots (areas g)) (work-log (areas g)) (work-open (areas g)) ≡ update-slots-by m (d .logged) (st .pending) (place-of 0 (d .rows))
+  unfolding update-has-slots read-areas
+  update-slots = sym (rw (← given-slots g, g .known .logged, g .known .pending, open-count g))
+
+  pub update-pages : update-has-pages (work-pages (areas g)) (work-open (areas g)) ≡ update-pages-by (st .free) (st .pending)
+  unfolding update-has-pages read-areas
+  update-pages = sym (rw (g .known .free, g .known .pending))
+
+  module _ (budget : ℕ) (r : Reply) where
+    pub begin-full : 8 ≤ place-of 0 (d .rows) → r .answer ≡ Refused EightOpen → r .desk ≡ d → Replies begin (lent wp sp wl sl) d budget r (lent wp sp wl sl)
+    unfolding outcome
+    begin-full h a k =
+        left-alone begin wp sp wl sl d (g .lengths) (Refused EightOpen) budget r
+        (begin-eight (areas g) d (g .is-sound) (le-true 8 (length (work-open (areas g))) (subst (λ (i : ℕ). 8 ≤ i) (open-count g) h))) a k
+
+    few : place-of 0 (d .rows) < 8 → leb 8 (length (work-open (areas g))) ≡ false
+    few h = le-false 8 (length (work-open (areas g))) (subst (λ (i : ℕ). i < 8) (open-count g) h)
+
+    pub begin-no-slots : place-of 0 (d .rows) < 8 → begin-slots-by m (d .logged) (st .pending) (place-of 0 (d .rows)) ≡ false → r .answer ≡ Refused SlotsShort → r .desk ≡ d
+        → Replies begin (lent wp sp wl sl) d budget r (lent wp sp wl sl)
+    unfolding outcome
+    begin-no-slots h e a k =
+        left-alone begin wp sp wl sl d (g .lengths) (Refused SlotsShort) budget r (begin-short (areas g) d (g .is-sound) (few h) (begin-slots ∙ e)) a k
+
+    pub begin-done : {wp′ wl′ : List ℕ} (b : ℕ) (u : run.Run) → place-of 0 (d .rows) < 8 → begin-slots-by m (d .logged) (st .pending) (place-of 0 (d .rows)) ≡ true → b ≡ suc (d .logged)
+        → Shows n m wp′ wl′ u (emit (batch-row records.begin b 0) (run-of (areas g))) → r .answer ≡ Number b
+        → r .desk ≡ record { rows = set (d .rows) (place-of 0 (d .rows)) (new-row b); logged = u .logged; stored = d .stored }
+        → Replies begin (lent wp sp wl sl) d budget r (lent wp′ sp wl′ sl)
+    unfolding outcome run-of read-areas reserve
+    begin-done b u h e eb sh a k =
+        let s = run-of (areas g) in
+        let x = true-le (d .logged + 1 + (32 * st .pending + 2 * suc (place-of 0 (d .rows)))) m e in
+        let nb : b ≡ suc (length (s .log)) = eb ∙ ap suc (g .known .logged) in
+        let room : leb (s .due) (s .slots) ≡ true = le-true (s .due) (s .slots) (omega (arith, g .known .logged, given-slots g)) in
+        let w = emit-goes (batch-row records.begin b 0) s refl room in
+        let z : emit (batch-row records.begin b 0) s .stop ≡ 0 = ap (λ t. t .stop) w in
+        let un : u .logged ≡ b = sym (sh .logged) ∙ ap (λ t. length (t .log)) w ∙ length-append (s .log) _ ∙ omega (arith, nb) in
+        left-run begin wp sp wl sl d (g .lengths) (Number b) budget (emit (batch-row records.begin b 0) s) r
+        (begin-goes (areas g) d (g .is-sound) (few h) (begin-slots ∙ e) ∙ rw nb) sh a
+        (k ∙ ap (λ (i : ℕ). record { rows = set (d .rows) (place-of 0 (d .rows)) (new-row b); logged = i; stored = d .stored }) un
+        ∙ sym (begin-desk s d (given-chain g) (g .known .desk) b 0 (d .stored) h nb z))
