@@ -1,0 +1,123 @@
+// The calls that end a batch, or store: commit, abort and write-out.
+use call::live_row;
+use desk::closed;
+use layout::Desk;
+use model::Answer;
+use model::Refusal;
+use replies::Reply;
+use replies::refused;
+use run::Run;
+use run::note;
+use sound::Standing;
+use store::store_all;
+use store::store_slots;
+use undo::abort_run;
+ghost use mathlib.Core.Path.{_≡_};
+ghost use mathlib.Core.List.{List};
+ghost use Prim.Native.Nat.{ℕ, _*_, _≤_, _<_};
+ghost use lib.ListN.{length};
+ghost use Rattle.model.specs.OnBytes as calls;
+ghost use Rattle.lend.specs.Lent.{lent};
+ghost use Rattle.replies.specs.Replies.{Replies};
+ghost use Rattle.call.specs.Given.{Given};
+
+// "Commit logs and then stores every unstored record, in order": as many stores as the budget has.
+pub fn commit_in(
+    wl: &mut [u8],
+    sl: &mut [u8],
+    m: usize,
+    d: Desk,
+    st: Standing,
+    b: u32,
+    budget: usize,
+) -> Reply
+    requires { ⌜ (length (now wl) ≡ 144 * m) × (m ≤ 16384) × (length (now sl) ≡ 144 * m) × (d .stored ≤ d .logged) × (d .logged ≤ m) ⌝ }
+    ensures { λ r.
+        ⌜ ((n : ℕ) (wp sp : List ℕ) → Given n m wp sp (now (wl .entry)) (now (sl .entry)) d st
+        → Replies (calls.commit b) (lent wp sp (now (wl .entry)) (now (sl .entry))) d budget r (lent wp sp (now (wl .exit)) (now (sl .exit)))) ⌝ }
+{
+    let marked = st.marked;
+    let i = live_row(d, marked, b);
+    if i == 8 {
+        return refused(Refusal::NoBatch, d);
+    }
+    let t = Run {
+        logged: d.logged,
+        stop: 0,
+    };
+    let last = d.rows[i].last;
+    let u = note(wl, m, t, 6, b, last);
+    store_slots(sl, wl, d.stored as usize, u.logged as usize, budget);
+    let desk = closed(d, i);
+    Reply {
+        answer: Answer::Done,
+        desk: desk.with_logged(u.logged).with_stored(u.logged),
+    }
+}
+
+// "Abort writes a 7, undoes newest first, always from the root, then writes an 8."
+pub fn abort_in(
+    wp: &mut [u8],
+    wl: &mut [u8],
+    n: usize,
+    m: usize,
+    d: Desk,
+    st: Standing,
+    b: u32,
+) -> Reply
+    requires { ⌜ (length (now wp) ≡ 128 * n) × (n ≤ 896) × (length (now wl) ≡ 144 * m) × (m ≤ 16384) ⌝ }
+    ensures { λ r.
+        ⌜ ((budget : ℕ) (sp sl : List ℕ) → Given n m (now (wp .entry)) sp (now (wl .entry)) sl d st
+        → Replies (calls.abort b) (lent (now (wp .entry)) sp (now (wl .entry)) sl) d budget r (lent (now (wp .exit)) sp (now (wl .exit)) sl)) ⌝ }
+{
+    let marked = st.marked;
+    let i = live_row(d, marked, b);
+    if i == 8 {
+        return refused(Refusal::NoBatch, d);
+    }
+    let t = Run {
+        logged: d.logged,
+        stop: 0,
+    };
+    let row = d.rows[i];
+    let u = abort_run(wp, wl, n, m, t, row);
+    let desk = closed(d, i);
+    Reply {
+        answer: Answer::Done,
+        desk: desk.with_logged(u.logged),
+    }
+}
+
+// "Write-out does the same, then stores one page."
+pub fn write_out_in(
+    wp: &[u8],
+    sp: &mut [u8],
+    wl: &[u8],
+    sl: &mut [u8],
+    n: usize,
+    m: usize,
+    d: Desk,
+    p: u32,
+    budget: usize,
+) -> Reply
+    requires { ⌜ (length (now wp) ≡ 128 * n) × (n ≤ 896) × (length (now sp) ≡ 128 * n) × (length (now wl) ≡ 144 * m) × (m ≤ 16384) × (length (now sl) ≡ 144 * m) × (d .stored ≤ d .logged) × (d .logged ≤ m) × (p < n) ⌝ }
+    ensures { λ r.
+        ⌜ ((st : Standing) → Given n m (now (wp .entry)) (now (sp .entry)) (now (wl .entry)) (now (sl .entry)) d st
+        → Replies (calls.write-out p) (lent (now (wp .entry)) (now (sp .entry)) (now (wl .entry)) (now (sl .entry))) d budget r (lent (now (wp .entry)) (now (sp .exit)) (now (wl .entry)) (now (sl .exit)))) ⌝ }
+{
+    store_all(
+        sp,
+        sl,
+        wp,
+        wl,
+        d.stored as usize,
+        d.logged as usize,
+        p as usize,
+        budget,
+    );
+    let logged = d.logged;
+    Reply {
+        answer: Answer::Done,
+        desk: d.with_stored(logged),
+    }
+}
