@@ -1,0 +1,255 @@
+// The register's calls on lent areas of any lengths and any bytes.
+use call::begin_in;
+use call::delete_in;
+use call::fetch_in;
+use call::insert_in;
+use call::next_in;
+use ends::abort_in;
+use ends::commit_in;
+use ends::write_out_in;
+use format::format;
+use layout::Desk;
+use layout::Row;
+use lend::lengths_ok;
+use model::Answer;
+use model::Refusal;
+use replies::Reply;
+use replies::refused;
+use sound::Standing;
+use sound::standing_of;
+ghost use mathlib.Core.Path.{_≡_};
+ghost use Prim.Native.Nat.{ℕ};
+ghost use Rattle.layout.specs.Desks.{empty-desk};
+ghost use Rattle.model.specs.OnBytes as calls;
+ghost use Rattle.lend.specs.Lent.{lent};
+ghost use Rattle.replies.specs.Replies.{Replies};
+ghost use Rattle.register.specs.Entered.{Entered};
+
+// What a call finds first: why it is refused (1 or 11; 0 if it goes on), how many pages and slots there are, and where the register stands.
+pub struct Entry {
+    pub reason: u32,
+    pub pages: usize,
+    pub slots: usize,
+    pub standing: Standing,
+}
+
+fn unread(reason: u32, pages: usize) -> Entry
+    ensures { λ e. ⌜ (e .reason ≡ reason) × (e .pages ≡ pages) ⌝ }
+{
+    let standing = Standing {
+        ok: false,
+        marked: [false; 8],
+        pending: 0,
+        free: 0,
+    };
+    Entry {
+        reason,
+        pages,
+        slots: 0,
+        standing,
+    }
+}
+
+// Refusals 1 and 11.
+fn enter(wp: &[u8], sp: &[u8], wl: &[u8], sl: &[u8], d: Desk) -> Entry
+    ensures { λ e. ⌜ Entered (now (wp .entry)) (now (sp .entry)) (now (wl .entry)) (now (sl .entry)) d e ⌝ }
+{
+    if !lengths_ok(wp, sp, wl, sl) {
+        return unread(1, 0);
+    }
+    let pages = wp.len() / 128;
+    let slots = wl.len() / 144;
+    let standing = standing_of(wp, wl, sl, pages, slots, d);
+    if !standing.ok {
+        return unread(11, pages);
+    }
+    Entry {
+        reason: 0,
+        pages,
+        slots,
+        standing,
+    }
+}
+
+// A new batch.
+pub fn begin(wp: &[u8], sp: &[u8], wl: &mut [u8], sl: &[u8], d: Desk) -> Reply
+    ensures { λ r. ⌜ ((budget : ℕ) → Replies calls.begin (lent (now (wp .entry)) (now (sp .entry)) (now (wl .entry)) (now (sl .entry))) d budget r (lent (now (wp .entry)) (now (sp .entry)) (now (wl .exit)) (now (sl .entry)))) ⌝ }
+{
+    let e = enter(wp, sp, wl, sl, d);
+    if e.reason == 1 {
+        return refused(Refusal::Lengths, d);
+    }
+    if e.reason == 11 {
+        return refused(Refusal::Unsound, d);
+    }
+    let st = e.standing;
+    begin_in(wl, e.slots, d, st)
+}
+
+// A key's value.
+pub fn fetch(wp: &[u8], sp: &[u8], wl: &[u8], sl: &[u8], d: Desk, b: u32, k: u32) -> Reply
+    ensures { λ r. ⌜ ((budget : ℕ) → Replies (calls.fetch b k) (lent (now (wp .entry)) (now (sp .entry)) (now (wl .entry)) (now (sl .entry))) d budget r (lent (now (wp .entry)) (now (sp .entry)) (now (wl .entry)) (now (sl .entry)))) ⌝ }
+{
+    let e = enter(wp, sp, wl, sl, d);
+    if e.reason == 1 {
+        return refused(Refusal::Lengths, d);
+    }
+    if e.reason == 11 {
+        return refused(Refusal::Unsound, d);
+    }
+    fetch_in(wp, wl, e.pages, e.slots, d, b, k)
+}
+
+// The first record above a key.
+pub fn next(wp: &[u8], sp: &[u8], wl: &[u8], sl: &[u8], d: Desk, b: u32, k: u32) -> Reply
+    ensures { λ r. ⌜ ((budget : ℕ) → Replies (calls.next b k) (lent (now (wp .entry)) (now (sp .entry)) (now (wl .entry)) (now (sl .entry))) d budget r (lent (now (wp .entry)) (now (sp .entry)) (now (wl .entry)) (now (sl .entry)))) ⌝ }
+{
+    let e = enter(wp, sp, wl, sl, d);
+    if e.reason == 1 {
+        return refused(Refusal::Lengths, d);
+    }
+    if e.reason == 11 {
+        return refused(Refusal::Unsound, d);
+    }
+    next_in(wp, wl, e.pages, e.slots, d, b, k)
+}
+
+// A slide is filed.
+pub fn insert(
+    wp: &mut [u8],
+    sp: &[u8],
+    wl: &mut [u8],
+    sl: &[u8],
+    d: Desk,
+    b: u32,
+    k: u32,
+    v: u32,
+) -> Reply
+    ensures { λ r. ⌜ ((budget : ℕ) → Replies (calls.insert b k v) (lent (now (wp .entry)) (now (sp .entry)) (now (wl .entry)) (now (sl .entry))) d budget r (lent (now (wp .exit)) (now (sp .entry)) (now (wl .exit)) (now (sl .entry)))) ⌝ }
+{
+    let e = enter(wp, sp, wl, sl, d);
+    if e.reason == 1 {
+        return refused(Refusal::Lengths, d);
+    }
+    if e.reason == 11 {
+        return refused(Refusal::Unsound, d);
+    }
+    let st = e.standing;
+    insert_in(wp, wl, e.pages, e.slots, d, st, b, k, v)
+}
+
+// A slide is taken out.
+pub fn delete(wp: &mut [u8], sp: &[u8], wl: &mut [u8], sl: &[u8], d: Desk, b: u32, k: u32) -> Reply
+    ensures { λ r. ⌜ ((budget : ℕ) → Replies (calls.delete b k) (lent (now (wp .entry)) (now (sp .entry)) (now (wl .entry)) (now (sl .entry))) d budget r (lent (now (wp .exit)) (now (sp .entry)) (now (wl .exit)) (now (sl .entry)))) ⌝ }
+{
+    let e = enter(wp, sp, wl, sl, d);
+    if e.reason == 1 {
+        return refused(Refusal::Lengths, d);
+    }
+    if e.reason == 11 {
+        return refused(Refusal::Unsound, d);
+    }
+    let st = e.standing;
+    delete_in(wp, wl, e.pages, e.slots, d, st, b, k)
+}
+
+// A batch's slides stay: as many stores as the budget has.
+pub fn commit_within(
+    wp: &[u8],
+    sp: &[u8],
+    wl: &mut [u8],
+    sl: &mut [u8],
+    d: Desk,
+    b: u32,
+    budget: usize,
+) -> Reply
+    ensures { λ r. ⌜ Replies (calls.commit b) (lent (now (wp .entry)) (now (sp .entry)) (now (wl .entry)) (now (sl .entry))) d budget r (lent (now (wp .entry)) (now (sp .entry)) (now (wl .exit)) (now (sl .exit))) ⌝ }
+{
+    let e = enter(wp, sp, wl, sl, d);
+    if e.reason == 1 {
+        return refused(Refusal::Lengths, d);
+    }
+    if e.reason == 11 {
+        return refused(Refusal::Unsound, d);
+    }
+    let st = e.standing;
+    commit_in(wl, sl, e.slots, d, st, b, budget)
+}
+
+// A batch's slides go.
+pub fn abort(wp: &mut [u8], sp: &[u8], wl: &mut [u8], sl: &[u8], d: Desk, b: u32) -> Reply
+    ensures { λ r. ⌜ ((budget : ℕ) → Replies (calls.abort b) (lent (now (wp .entry)) (now (sp .entry)) (now (wl .entry)) (now (sl .entry))) d budget r (lent (now (wp .exit)) (now (sp .entry)) (now (wl .exit)) (now (sl .entry)))) ⌝ }
+{
+    let e = enter(wp, sp, wl, sl, d);
+    if e.reason == 1 {
+        return refused(Refusal::Lengths, d);
+    }
+    if e.reason == 11 {
+        return refused(Refusal::Unsound, d);
+    }
+    let st = e.standing;
+    abort_in(wp, wl, e.pages, e.slots, d, st, b)
+}
+
+// The log and then one page are stored: as many stores as the budget has.
+pub fn write_out_within(
+    wp: &[u8],
+    sp: &mut [u8],
+    wl: &[u8],
+    sl: &mut [u8],
+    d: Desk,
+    p: u32,
+    budget: usize,
+) -> Reply
+    ensures { λ r. ⌜ Replies (calls.write-out p) (lent (now (wp .entry)) (now (sp .entry)) (now (wl .entry)) (now (sl .entry))) d budget r (lent (now (wp .entry)) (now (sp .exit)) (now (wl .entry)) (now (sl .exit))) ⌝ }
+{
+    let e = enter(wp, sp, wl, sl, d);
+    if e.reason == 1 {
+        return refused(Refusal::Lengths, d);
+    }
+    if p as usize >= e.pages {
+        return refused(Refusal::PageNumber, d);
+    }
+    if e.reason == 11 {
+        return refused(Refusal::Unsound, d);
+    }
+    write_out_in(wp, sp, wl, sl, e.pages, e.slots, d, p, budget)
+}
+
+fn empty_desk() -> Desk
+    ensures { λ d. ⌜ d ≡ empty-desk ⌝ }
+{
+    let rows = [Row {
+        batch: 0,
+        last: 0,
+        undo: 0,
+        pending: 0,
+    }; 8];
+    Desk {
+        rows,
+        logged: 0,
+        stored: 0,
+    }
+}
+
+// "Format empties all four areas to a map and an empty root leaf": as many stores as the budget has.
+pub fn format_within(
+    wp: &mut [u8],
+    sp: &mut [u8],
+    wl: &mut [u8],
+    sl: &mut [u8],
+    d: Desk,
+    budget: usize,
+) -> Reply
+    ensures { λ r. ⌜ Replies calls.format (lent (now (wp .entry)) (now (sp .entry)) (now (wl .entry)) (now (sl .entry))) d budget r (lent (now (wp .exit)) (now (sp .exit)) (now (wl .exit)) (now (sl .exit))) ⌝ }
+{
+    let desk = empty_desk();
+    if !lengths_ok(wp, sp, wl, sl) {
+        return refused(Refusal::Lengths, desk);
+    }
+    format(wp, sp, wl, sl, budget);
+    Reply {
+        answer: Answer::Done,
+        desk,
+    }
+}
