@@ -7,7 +7,7 @@ use call::next_in;
 use ends::abort_in;
 use ends::commit_in;
 use ends::write_out_in;
-use format::format;
+use format::format as formatted;
 use layout::Desk;
 use layout::Row;
 use lend::lengths_ok;
@@ -15,10 +15,12 @@ use model::Answer;
 use model::Refusal;
 use replies::Reply;
 use replies::refused;
+use restart::restart_within;
 use sound::Standing;
 use sound::standing_of;
 ghost use mathlib.Core.Path.{_≡_};
 ghost use Prim.Native.Nat.{ℕ};
+ghost use lib.ListN.{length};
 ghost use Rattle.layout.specs.Desks.{empty-desk};
 ghost use Rattle.model.specs.OnBytes as calls;
 ghost use Rattle.lend.specs.Lent.{lent};
@@ -247,9 +249,35 @@ pub fn format_within(
     if !lengths_ok(wp, sp, wl, sl) {
         return refused(Refusal::Lengths, desk);
     }
-    format(wp, sp, wl, sl, budget);
+    formatted(wp, sp, wl, sl, budget);
     Reply {
         answer: Answer::Done,
         desk,
     }
+}
+
+// ---- with all their stores
+
+pub fn format(wp: &mut [u8], sp: &mut [u8], wl: &mut [u8], sl: &mut [u8], d: Desk) -> Reply
+    ensures { λ r. ⌜ Replies calls.format (lent (now (wp .entry)) (now (sp .entry)) (now (wl .entry)) (now (sl .entry))) d (length (calls.call calls.format (lent (now (wp .entry)) (now (sp .entry)) (now (wl .entry)) (now (sl .entry))) d .stores)) r (lent (now (wp .exit)) (now (sp .exit)) (now (wl .exit)) (now (sl .exit))) ⌝ }
+{
+    format_within(wp, sp, wl, sl, d, 20000)
+}
+
+pub fn commit(wp: &[u8], sp: &[u8], wl: &mut [u8], sl: &mut [u8], d: Desk, b: u32) -> Reply
+    ensures { λ r. ⌜ Replies (calls.commit b) (lent (now (wp .entry)) (now (sp .entry)) (now (wl .entry)) (now (sl .entry))) d (length (calls.call (calls.commit b) (lent (now (wp .entry)) (now (sp .entry)) (now (wl .entry)) (now (sl .entry))) d .stores)) r (lent (now (wp .entry)) (now (sp .entry)) (now (wl .exit)) (now (sl .exit))) ⌝ }
+{
+    commit_within(wp, sp, wl, sl, d, b, 20000)
+}
+
+pub fn write_out(wp: &[u8], sp: &mut [u8], wl: &[u8], sl: &mut [u8], d: Desk, p: u32) -> Reply
+    ensures { λ r. ⌜ Replies (calls.write-out p) (lent (now (wp .entry)) (now (sp .entry)) (now (wl .entry)) (now (sl .entry))) d (length (calls.call (calls.write-out p) (lent (now (wp .entry)) (now (sp .entry)) (now (wl .entry)) (now (sl .entry))) d .stores)) r (lent (now (wp .entry)) (now (sp .exit)) (now (wl .entry)) (now (sl .exit))) ⌝ }
+{
+    write_out_within(wp, sp, wl, sl, d, p, 20000)
+}
+
+pub fn restart(wp: &mut [u8], sp: &[u8], wl: &mut [u8], sl: &mut [u8], d: Desk) -> Reply
+    ensures { λ r. ⌜ Replies calls.restart (lent (now (wp .entry)) (now (sp .entry)) (now (wl .entry)) (now (sl .entry))) d (length (calls.call calls.restart (lent (now (wp .entry)) (now (sp .entry)) (now (wl .entry)) (now (sl .entry))) d .stores)) r (lent (now (wp .exit)) (now (sp .entry)) (now (wl .exit)) (now (sl .exit))) ⌝ }
+{
+    restart_within(wp, sp, wl, sl, d, 20000)
 }

@@ -1,0 +1,31 @@
+-- `restart`: with a budget that is never spent.
+use borrow.Author.Needs.{needs}
+use Rattle.register.proofs.restart.Statement.{statement}
+use Rattle.register.proofs.restart.Tie as tie
+use Rattle.lend.specs.Lent.{lent}
+use Rattle.register.specs.Whole.{whole, restart-few}
+
+restart-within-requires : tie.Need-restart-within-requires
+restart-within-requires c κs = search needs
+
+same-length : tie.Need-same-length
+same-length c = search needs
+
+same-length-2 : tie.Need-same-length-2
+same-length-2 c = search needs
+
+same-length-3 : tie.Need-same-length-3
+same-length-3 c = search needs
+
+returns : tie.Need-returns
+returns c = let a = c .before .before .before .before .before .before .before .before .before .before .before .before .before .before .args in whole (restart-few (lent (a .wp .now) (a .sp .now) (a .wl .now) (a .sl .now)) (a .d)) (c .before .before .before .before .before .before .restart-within .ensures)
+
+pub restart-spec : {M : Type 1} → statement M
+restart-spec =
+    tie.close
+    (tie.spec
+    restart-within-requires
+    same-length
+    same-length-2
+    same-length-3
+    returns)
