@@ -2,8 +2,8 @@
 use mathlib.Core.Path.{_≡_, refl, ap, sym, _∙_, subst}
 use Prim.Native.Nat.{ℕ, suc, _+_, _*_, _<_, _≤_}
 use native.Mathlib.Omega.{arith}
-use mathlib.Core.Bool.{Bool, true, false}
-use mathlib.Core.List.{List, [], _∷_}
+use mathlib.Core.Bool.{true, false}
+use mathlib.Core.List.{List, []}
 use lib.ListN.{length, set, length-append}
 use lib.Dec.{leb}
 use Rattle.base.specs.Tests.{le-true, le-false, true-le}
@@ -11,9 +11,7 @@ use Rattle.layout.specs.declared.Desk.{Desk}
 use Rattle.layout.specs.Records as records
 use Rattle.layout.specs.Records.{batch-row}
 use Rattle.model.specs.declared.Refusal.the-variants.{EightOpen, SlotsShort}
-use Rattle.model.specs.declared.Answer.{Answer}
 use Rattle.model.specs.declared.Answer.the-variants.{Number, Refused}
-use Rattle.model.specs.Batches.{pending-count}
 use Rattle.model.specs.Update.{emit}
 use Rattle.model.specs.Sound.{reserve, work-pages, work-log, work-slots, work-open, begin-has-slots, update-has-slots, update-has-pages}
 use Rattle.model.specs.Calls.{run-of}

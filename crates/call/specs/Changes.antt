@@ -1,11 +1,11 @@
 -- Insert and delete, reply by reply.
-use mathlib.Core.Path.{_≡_, refl, ap, sym, _∙_, subst}
-use Prim.Native.Nat.{ℕ, suc, _+_, _<_, _≤_}
+use mathlib.Core.Path.{_≡_, refl, sym, _∙_}
+use Prim.Native.Nat.{ℕ, _+_, _<_, _≤_}
 use mathlib.Core.Bool.{Bool, true, false}
 use mathlib.Core.Option.{Option, none, some}
 use mathlib.Core.List.{List}
 use native.Mathlib.Omega.{arith}
-use lib.ListN.{length, getD, set}
+use lib.ListN.{getD, set}
 use Rattle.base.specs.Tests.{pick, clash}
 use Rattle.model.specs.Fit.{found}
 use Rattle.layout.specs.declared.Desk.{Desk}
@@ -19,8 +19,8 @@ use Rattle.model.specs.Lookup.{fetched}
 use Rattle.model.specs.Pending.{held}
 use Rattle.model.specs.Batches.{find-batch, unmarked}
 use Rattle.model.specs.Update.{put-record, remove-record}
-use Rattle.model.specs.Sound.{work-pages, work-log, work-slots, work-open}
-use Rattle.model.specs.Calls.{run-of, last-record, unchanged}
+use Rattle.model.specs.Sound.{work-pages, work-open}
+use Rattle.model.specs.Calls.{run-of, unchanged}
 use Rattle.model.specs.OnBytes.{Call, insert, delete, outcome, read-areas}
 use Rattle.checks.specs.Reserves.{update-slots-by, update-pages-by}
 use Rattle.lend.specs.Lent.{lent}
@@ -35,7 +35,7 @@ use Rattle.sound_laws.specs.SoundKept.{insert-runs, delete-runs}
 use Rattle.sound_laws.specs.OfBytes.{lendable}
 use Rattle.sound.specs.declared.Standing.{Standing}
 use Rattle.call.specs.Checked.{insert-no-batch, insert-held, insert-present, insert-no-slots, insert-no-pages, insert-goes, delete-no-batch, delete-held, delete-absent, delete-no-slots, delete-no-pages, delete-goes}
-use Rattle.call.specs.Given.{Given, areas, given-chain, open-place, open-zero, live-none, live-marked, live-some, last-is}
+use Rattle.call.specs.Given.{Given, areas, given-chain, open-place, open-zero, live-some, last-is}
 use Rattle.call.specs.Begin.{update-slots, update-pages}
 
 -- Which of slots and pages are short.

@@ -1,9 +1,9 @@
 -- The checks of each call in number order: which refusal stands first, and what the call does where none stands.
-use mathlib.Core.Path.{_≡_, refl, ap, sym, _∙_}
+use mathlib.Core.Path.{_≡_}
 use Prim.Native.Nat.{ℕ, suc}
-use mathlib.Core.Bool.{Bool, true, false, not}
+use mathlib.Core.Bool.{true, false}
 use mathlib.Core.Option.{Option, none, some}
-use mathlib.Core.List.{List, [], _∷_}
+use mathlib.Core.List.{[], _∷_}
 use lib.ListN.{length}
 use lib.Dec.{leb}
 use Rattle.base.specs.Tests.{eq-true}
@@ -13,7 +13,7 @@ use Rattle.layout.specs.Desks.{most-open}
 use Rattle.layout.specs.Pages.{at}
 use Rattle.layout.specs.Records.{insert, delete, begin, commit, batch-row}
 use Rattle.model.specs.declared.Refusal.{Refusal}
-use Rattle.model.specs.declared.Refusal.the-variants.{PageNumber, Unsound, NoBatch, EightOpen, Held, Present, Absent, SlotsShort, PagesShort, AbortStopped}
+use Rattle.model.specs.declared.Refusal.the-variants.{PageNumber, Unsound, NoBatch, EightOpen, Held, Present, Absent, SlotsShort, PagesShort}
 use Rattle.model.specs.declared.Answer.the-variants.{Done, Number, Pair, Refused}
 use Rattle.model.specs.Log.{last-number}
 use Rattle.model.specs.Fit.{found}
@@ -24,7 +24,7 @@ use Rattle.model.specs.Batches.{find-batch, unmarked}
 use Rattle.model.specs.Pending.{held, held-between}
 use Rattle.model.specs.Update.{emit, put-record, remove-record}
 use Rattle.model.specs.Sound.{sound, work-pages, work-log, work-slots, work-open, update-has-slots, update-has-pages, begin-has-slots}
-use Rattle.model.specs.Calls.{run-of, kept-run, stored-run, unchanged, is-none, present, value-or, last-record, next-limit, next-answer, abort-of, begin-checks, begin-by, begin-batch, fetch-checks, fetch-by, fetch-slide, next-checks, next-slide-by, next-slide, insert-checks, insert-by, insert-slide, delete-checks, delete-by, delete-slide, commit-checks, commit-by, commit-batch, abort-checks, abort-by, abort-batch, write-out-checks, write-out-by, write-out-page}
+use Rattle.model.specs.Calls.{run-of, kept-run, stored-run, unchanged, is-none, value-or, last-record, next-limit, next-answer, abort-of, begin-checks, begin-by, begin-batch, fetch-checks, fetch-by, fetch-slide, next-checks, next-slide-by, next-slide, insert-checks, insert-by, insert-slide, delete-checks, delete-by, delete-slide, commit-checks, commit-by, commit-batch, abort-checks, abort-by, abort-batch, write-out-checks, write-out-by, write-out-page}
 
 module _ (a : Areas) (d : Desk) where
   abbrev refuses : Outcome → Refusal → Type 0

@@ -3,7 +3,7 @@ use mathlib.Core.Path.{_≡_, refl, ap, sym, _∙_, subst}
 use Prim.Native.Nat.{ℕ, zero, suc, _*_, _≤_, _<_}
 use native.Mathlib.Omega.{arith}
 use mathlib.Core.Logic.{_≢_, _⊎_, inl, inr, ⊎-elim}
-use mathlib.Core.Bool.{Bool, true, false, not, _&&_}
+use mathlib.Core.Bool.{Bool, true, false, not}
 use mathlib.Core.Option.{Option, none, some}
 use mathlib.Core.List.{List, [], _∷_}
 use lib.ListN.{length, getD}
@@ -14,22 +14,19 @@ use Rattle.layout.specs.declared.Desk.{Desk}
 use Rattle.layout.specs.Desks.{row-at}
 use Rattle.layout.specs.PageBytes.{page-size}
 use Rattle.layout.specs.Records.{Rec}
-use Rattle.layout.specs.RecordBytes.{slot-size}
 use Rattle.model.specs.Log.{records-of}
-use Rattle.model.specs.Batches.{Batch, find-batch, unmarked, open-batches, chain-ok, row-of}
-use Rattle.model.specs.TreeRules.{tree-ok}
+use Rattle.model.specs.Batches.{Batch, find-batch, unmarked, chain-ok, row-of}
 use Rattle.model.specs.Areas.{Areas}
 use Rattle.model.specs.Sound.{sound, layouts-ok, log-ok, work-pages, work-log, work-slots, work-open}
 use Rattle.model.specs.Calls.{is-none, last-of, last-record}
-use Rattle.model.specs.OnBytes.{Lent, lengths-ok, read-pages, read-log, read-areas}
+use Rattle.model.specs.OnBytes.{lengths-ok, read-log, read-areas}
 use Rattle.bytes.specs.Tables.{getD-tab}
 use Rattle.area_laws.specs.Logs.{read-log-length}
 use Rattle.area_laws.specs.Pages.{read-pages-length}
 use Rattle.lend.specs.Lent.{lent}
 use Rattle.desk.specs.Rows.{place-of}
-use Rattle.desk_laws.specs.Opened.{batch-at, log-chain, open-few, zero-not-open}
+use Rattle.desk_laws.specs.Opened.{batch-at, log-chain, zero-not-open}
 use Rattle.desk_laws.specs.Said.{said-row, said-used, said-none, said-found}
-use Rattle.chain.specs.Eights.{eight}
 use Rattle.chain.specs.Shown.{marks-of}
 use Rattle.page.specs.Areas.{pages-bytes-length}
 use Rattle.redo.specs.Pages.{Pages}

@@ -1,18 +1,16 @@
 -- Fetch and next, reply by reply.
-use mathlib.Core.Path.{_≡_, refl, ap, sym, _∙_, subst}
+use mathlib.Core.Path.{_≡_, ap, sym, _∙_}
 use Prim.Native.Nat.{ℕ, _<_, _≤_}
-use mathlib.Core.Bool.{Bool, true, false}
+use mathlib.Core.Bool.{true, false}
 use mathlib.Core.Option.{Option, none, some}
 use mathlib.Core.List.{List}
 use Rattle.layout.specs.declared.Entry.{Entry}
 use Rattle.layout.specs.declared.Desk.{Desk}
 use Rattle.layout.specs.Entries.{entry, top}
-use Rattle.layout.specs.Pages.{Page}
 use Rattle.model.specs.declared.Refusal.the-variants.{NoBatch, Held, Absent}
 use Rattle.model.specs.declared.Answer.the-variants.{Number, Pair, Refused}
 use Rattle.model.specs.Lookup.{fetched, next-above}
 use Rattle.model.specs.Pending.{held, held-between}
-use Rattle.model.specs.Batches.{desk-of}
 use Rattle.model.specs.Sound.{work-pages, work-log, work-open}
 use Rattle.model.specs.Calls.{next-limit}
 use Rattle.model.specs.OnBytes.{fetch, next, outcome, read-areas}

@@ -1,41 +1,36 @@
 -- Commit, abort and write-out, reply by reply.
-use mathlib.Core.Path.{_≡_, refl, ap, ap₂, sym, _∙_, subst}
-use Prim.Native.Nat.{ℕ, zero, suc, _+_, _-_, _*_, _<_, _≤_, min}
+use mathlib.Core.Path.{_≡_, refl, ap, sym, _∙_, subst}
+use Prim.Native.Nat.{ℕ, _+_, _-_, _*_, _<_, _≤_, min}
 use native.Mathlib.Omega.{arith}
-use mathlib.Core.Bool.{Bool, true, false, _&&_}
-use mathlib.Core.Option.{Option, none, some}
-use mathlib.Core.List.{List, [], _∷_, _++_}
-use lib.ListN.{length, getD, take, length-append}
+use mathlib.Core.Bool.{true, false}
+use mathlib.Core.List.{List, [], _∷_}
+use lib.ListN.{length, getD}
 use lib.Dec.{leb}
 use Rattle.base.specs.Tests.{le-true, le-false, true-le, and-true}
-use Rattle.layout.specs.declared.Row.{Row}
 use Rattle.layout.specs.declared.Desk.{Desk}
 use Rattle.layout.specs.Desks.{row-at}
 use Rattle.layout.specs.Pages.{Page, at}
 use Rattle.layout.specs.PageBytes.{page-size, page-bytes}
 use Rattle.layout.specs.Records as records
-use Rattle.layout.specs.Records.{Rec, batch-row}
+use Rattle.layout.specs.Records.{batch-row}
 use Rattle.layout.specs.RecordBytes.{slot-size}
-use Rattle.model.specs.declared.Refusal.{Refusal}
-use Rattle.model.specs.declared.Refusal.the-variants.{PageNumber, Unsound, NoBatch}
+use Rattle.model.specs.declared.Refusal.the-variants.{NoBatch}
 use Rattle.model.specs.declared.Answer.the-variants.{Done, Refused}
-use Rattle.model.specs.Log.{last-number, log-area}
-use Rattle.model.specs.Areas.{Store, store-page, log-stores}
-use Rattle.model.specs.Batches.{Batch, find-batch, unmarked, row-of, desk-of}
+use Rattle.model.specs.Areas.{store-page}
+use Rattle.model.specs.Batches.{find-batch, unmarked, desk-of}
 use Rattle.model.specs.Update.{Run, emit}
 use Rattle.model.specs.Undo.{abort-run}
-use Rattle.model.specs.Sound.{work-pages, work-log, work-slots, work-open, reserve, reserves-ok, sound}
-use Rattle.model.specs.Calls.{run-of, run-side, last-record, aborted, abort-of, unchanged}
-use Rattle.model.specs.OnBytes.{Lent, commit, abort, write-out, outcome, read-areas, log-bytes, store-all-bytes}
+use Rattle.model.specs.Sound.{work-pages, work-log, work-slots, work-open, reserve, reserves-ok}
+use Rattle.model.specs.Calls.{run-of, aborted, abort-of}
+use Rattle.model.specs.OnBytes.{Lent, commit, abort, write-out, outcome, read-areas}
 use Rattle.bytes.specs.Words.{part}
-use Rattle.bytes.specs.Pieces.{read-all-at}
 use Rattle.area_laws.specs.Logs.{AllFit, log-filled}
 use Rattle.lend.specs.Lent.{lent}
 use Rattle.ledger_laws.specs.Batching.{find-number}
 use Rattle.store.specs.Runs.{copied}
 use Rattle.store.specs.Stored.{page-part}
 use Rattle.store.specs.WriteOut.{records-stored, write-out-stored}
-use Rattle.desk.specs.Rows.{place-of, without}
+use Rattle.desk.specs.Rows.{without}
 use Rattle.desk_laws.specs.Opened.{batch-at}
 use Rattle.desk_laws.specs.Places.{found-place}
 use Rattle.desk_laws.specs.Runs.{commit-desk, abort-desk}
@@ -53,7 +48,7 @@ use Rattle.sound_laws.specs.SoundKept.{abort-finds-room}
 use Rattle.sound_laws.specs.OfBytes.{lendable}
 use Rattle.sound.specs.declared.Standing.{Standing}
 use Rattle.call.specs.Checked.{commit-no-batch, commit-goes, abort-no-batch, abort-goes, write-out-goes}
-use Rattle.call.specs.Given.{Given, areas, given-chain, given-slots, given-pages, open-place, open-zero, open-found, live-some, last-is, row-is}
+use Rattle.call.specs.Given.{Given, areas, given-chain, given-slots, given-pages, open-place, open-zero, open-found, live-some, last-is}
 
 -- The page that stands in an area.
 page-there : {n : ℕ} {area : List ℕ} {xs : List Page} → Pages n area xs → (p : ℕ) → p < n → part area (page-size * p) page-size ≡ page-bytes (at xs p)

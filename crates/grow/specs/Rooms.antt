@@ -1,11 +1,10 @@
 -- A run that has come to a page: room is made there, its children are linked, and the run goes down.
 use mathlib.Core.Path.{_≡_, refl, ap, sym, _∙_, subst}
-use Prim.Native.Nat.{ℕ, zero, suc, _-_, _<_, _≤_}
+use Prim.Native.Nat.{ℕ, suc, _-_, _<_, _≤_}
 use native.Mathlib.Omega.{arith}
-use mathlib.Core.Bool.{Bool, true, false}
+use mathlib.Core.Bool.{true, false}
 use mathlib.Core.List.{List}
-use lib.ListN.{length}
-use lib.Dec.{leb, ltb, eqb}
+use lib.Dec.{leb, ltb}
 use Rattle.base.specs.Tests.{pick, eq-true, neq-false, le-true, le-false, lt-true, lt-false}
 use Rattle.layout.specs.declared.Entry.{Entry}
 use Rattle.layout.specs.Pages.{Page, at}
@@ -14,7 +13,7 @@ use Rattle.model.specs.Lookup.{entry-for}
 use Rattle.model.specs.Update.{Run, At, Pair, half, split-page, room-by, make-room, link-child, linked-by, direct-by, direct-for, direct, raise-by, raise-root, descend-add, find-add, emit, put-record}
 use Rattle.page.specs.declared.Page as program
 use Rattle.page.specs.Typed.{typed}
-use Rattle.redo.specs.Pages.{Pages, Reads, reads-count}
+use Rattle.redo.specs.Pages.{Reads, reads-count}
 use Rattle.run.specs.declared.Run as run
 use Rattle.run.specs.Shows.{Shows}
 use Rattle.grow.specs.declared.At as here

@@ -1,11 +1,9 @@
 -- The rows that a descent writes, from the pages that the program read.
 use mathlib.Core.Path.{_≡_, refl, ap, sym, _∙_, subst}
-use Prim.Native.Nat.{ℕ, zero, suc, _-_, _<_, _≤_, _^_}
+use Prim.Native.Nat.{ℕ, _-_, _<_, _≤_, _^_}
 use native.Mathlib.Omega.{arith}
-use mathlib.Core.Bool.{Bool, true, false}
 use mathlib.Core.List.{List}
 use lib.ListN.{drop}
-use lib.Dec.{eqb}
 use Rattle.base.specs.Tests.{neq-false}
 use Rattle.layout.specs.declared.Entry.{Entry}
 use Rattle.layout.specs.Entries.{key-at}
@@ -13,15 +11,14 @@ use Rattle.layout.specs.Pages.{Page, at}
 use Rattle.layout.specs.Records.{Rec, kind-of, data-row, split-row, link-row, raise-row}
 use Rattle.model.specs.Update.{Run, emit, emit-taking, split-page, link-child, raise-by, raise-root}
 use Rattle.page.specs.declared.Page as program
-use Rattle.page.specs.Typed.{typed}
 use Rattle.page.specs.Fields.{Fits}
 use Rattle.area_laws.specs.Pages.{fits-past}
 use Rattle.width_laws.specs.Each.{each-drop}
 use Rattle.width_laws.specs.Fine.{Fine, fine-at}
 use Rattle.entries.specs.EntryBytes.{used, EntryFits}
-use Rattle.width_laws.specs.Acting.{Narrow, fits-fine}
+use Rattle.width_laws.specs.Acting.{fits-fine}
 use Rattle.width_laws.specs.Rows.{batched-low, data-narrow, split-narrow, link-narrow, raise-narrow}
-use Rattle.redo.specs.Pages.{Pages, Reads}
+use Rattle.redo.specs.Pages.{Reads}
 use Rattle.run.specs.declared.Run as run
 use Rattle.run.specs.Shows.{Shows, Keeping, narrow-keeping}
 use Rattle.grow.specs.Rooms.{high-is, right-is, level-is}

@@ -1,6 +1,6 @@
 -- An area that shows typed pages, and a page of it by value.
-use mathlib.Core.Path.{_≡_, refl, ap, sym, _∙_, subst}
-use Prim.Native.Nat.{ℕ, zero, suc, _+_, _*_, _^_, _<_, _≤_}
+use mathlib.Core.Path.{_≡_, ap, sym, _∙_, subst}
+use Prim.Native.Nat.{ℕ, suc, _*_, _<_, _≤_}
 use native.Mathlib.Omega.{arith}
 use mathlib.Core.List.{List, [], _∷_}
 use lib.ListN.{length, set, length-set}
@@ -15,9 +15,9 @@ use Rattle.bytes.specs.Pieces.{All}
 use Rattle.bytes.specs.Tables.{tab-length}
 use Rattle.entries.specs.EntryBytes.{used}
 use Rattle.page.specs.declared.Page as program
-use Rattle.page.specs.Typed.{typed, used-entries}
-use Rattle.page.specs.Kinds.{used-entries-node, used-entries-map, kind-map}
-use Rattle.page.specs.Fields.{Fits, BodyFits, NodeFits}
+use Rattle.page.specs.Typed.{typed}
+use Rattle.page.specs.Kinds.{used-entries-node, used-entries-map}
+use Rattle.page.specs.Fields.{Fits, BodyFits}
 use Rattle.page.specs.Areas.{pages-of, pages-bytes, pages-back, pages-bytes-set}
 use Rattle.area_laws.specs.Pages.{AllPagesFit, fits-past, fits-set}
 

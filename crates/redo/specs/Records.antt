@@ -1,11 +1,11 @@
 -- A record at the pages that it names, one after the other.
 use mathlib.Core.Path.{_≡_, refl, ap, sym, _∙_, subst}
-use Prim.Native.Nat.{ℕ, _/_, _%_, _<_, _≤_}
+use Prim.Native.Nat.{ℕ, _<_, _≤_}
 use mathlib.Core.Bool.{Bool, true, false}
-use mathlib.Core.List.{List, [], _∷_}
+use mathlib.Core.List.{List, []}
 use lib.ListN.{set}
 use lib.Seq.{set-getD}
-use lib.Dec.{eqb, ltb}
+use lib.Dec.{ltb}
 use Rattle.base.specs.Tests.{pick, lt-true, lt-false}
 use Rattle.layout.specs.Pages.{Page, zero-page, at}
 use Rattle.layout.specs.Records.{Rec}

@@ -1,36 +1,22 @@
 -- What every call finds first: refusal 1, refusal 11, or a sound register.
-use mathlib.Core.Path.{_≡_, refl, ap, sym, _∙_, subst}
-use Prim.Native.Nat.{ℕ, suc, _*_, _/_, _≤_, _<_}
+use mathlib.Core.Path.{_≡_, sym, _∙_, subst}
+use Prim.Native.Nat.{ℕ, _*_, _/_, _≤_}
 use native.Mathlib.Omega.{arith}
-use mathlib.Core.Bool.{Bool, true, false}
-use mathlib.Core.List.{List, map}
+use mathlib.Core.Bool.{true, false}
+use mathlib.Core.List.{List}
 use lib.ListN.{length}
-use lib.Dec.{leb}
-use Rattle.base.specs.Tests.{le-true, le-false}
-use Rattle.layout.specs.declared.Row.{Row}
 use Rattle.layout.specs.declared.Desk.{Desk}
-use Rattle.layout.specs.Desks.{row-at, eight-rows}
+use Rattle.layout.specs.Desks.{eight-rows}
 use Rattle.layout.specs.Pages.{Page}
 use Rattle.layout.specs.Records.{Rec}
-use Rattle.layout.specs.PageBytes.{page-size}
-use Rattle.layout.specs.RecordBytes.{slot-size}
-use Rattle.model.specs.declared.Refusal.{Refusal}
-use Rattle.model.specs.declared.Refusal.the-variants.{PageNumber, Unsound, Lengths}
-use Rattle.model.specs.declared.Answer.the-variants.{Refused}
-use Rattle.model.specs.Batches.{open-batches, row-of}
 use Rattle.model.specs.Sound.{sound}
-use Rattle.model.specs.Calls.{unchanged}
-use Rattle.model.specs.OnBytes.{Call, begin, fetch, next, insert, delete, commit, abort, write-out, Lent, lengths-ok, read-areas, outcome}
-use Rattle.area_laws.specs.Pages.{read-pages-length}
+use Rattle.model.specs.OnBytes.{lengths-ok, read-areas}
 use Rattle.lend.specs.Lent.{lent, Sized, lengths-numbers}
 use Rattle.lines.specs.Reading.{reads-few}
 use Rattle.judge.specs.Accepted as judge
-use Rattle.replies.specs.declared.Reply.{Reply}
-use Rattle.replies.specs.Replies.{Replies, lengths-refused, left-alone}
 use Rattle.sound.specs.declared.Standing.{Standing}
 use Rattle.sound.specs.Standing.{Known, Stands, known-low}
 use Rattle.call.specs.Given.{Given, LowRows}
-use Rattle.call.specs.Checked.{write-out-past, write-out-unsound}
 use Rattle.register.specs.declared.Entry.{Entry}
 
 -- The numbers that later steps ask for.

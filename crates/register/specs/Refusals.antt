@@ -1,15 +1,13 @@
 -- Refusals 1 and 11 of every call, and 2 of write-out.
-use mathlib.Core.Path.{_≡_, refl, ap, sym, _∙_, subst}
+use mathlib.Core.Path.{_≡_, ap, sym, _∙_}
 use Prim.Native.Nat.{ℕ, _/_, _≤_, _<_}
 use native.Mathlib.Omega.{arith}
-use mathlib.Core.Bool.{Bool, true, false}
+use mathlib.Core.Bool.{true, false}
 use mathlib.Core.List.{List}
 use lib.ListN.{length}
-use lib.Dec.{leb}
 use Rattle.base.specs.Tests.{le-true, le-false}
 use Rattle.layout.specs.declared.Desk.{Desk}
 use Rattle.layout.specs.Desks.{empty-desk}
-use Rattle.layout.specs.PageBytes.{page-size}
 use Rattle.model.specs.declared.Refusal.the-variants.{PageNumber, Unsound, Lengths}
 use Rattle.model.specs.declared.Answer.the-variants.{Done, Refused}
 use Rattle.model.specs.Sound.{sound}

@@ -1,16 +1,16 @@
 -- A call's own stores are its whole list: no call has more than 20,000, so that a budget of 20,000 carries them all out.
-use mathlib.Core.Path.{_≡_, refl, ap, sym, _∙_, subst}
-use Prim.Native.Nat.{ℕ, zero, suc, _+_, _-_, _*_, _/_, _≤_, _<_}
+use mathlib.Core.Path.{_≡_, ap, sym, _∙_}
+use Prim.Native.Nat.{ℕ, suc, _+_, _-_, _/_, _≤_}
 use native.Mathlib.Omega.{arith}
 use mathlib.Core.Bool.{Bool, true, false}
 use mathlib.Core.Option.{Option, none, some}
 use mathlib.Core.List.{List, [], _∷_, _++_}
-use lib.ListN.{length, take, replicate, length-append, length-replicate}
+use lib.ListN.{length, replicate, length-append, length-replicate}
 use lib.Dec.{leb}
 use lib.Seq.{take-all, take-length}
-use Rattle.base.specs.Tests.{Case, yes!, no!, case, clash}
+use Rattle.base.specs.Tests.{Case, yes!, no!, case}
 use Rattle.layout.specs.declared.Desk.{Desk}
-use Rattle.layout.specs.Pages.{Page, at}
+use Rattle.layout.specs.Pages.{at}
 use Rattle.layout.specs.PageBytes.{page-size}
 use Rattle.layout.specs.Records as records
 use Rattle.layout.specs.Records.{Rec, batch-row}
@@ -22,12 +22,12 @@ use Rattle.model.specs.Answers.{first-broken}
 use Rattle.model.specs.Update.{Run, going, emit-by, emit}
 use Rattle.model.specs.Calls.{run-of, stored-run, last-record, formatted-pages, page-stores, format-stores, format-areas, commit-checks, commit-by, commit-batch, write-out-checks, write-out-by, write-out-page}
 use Rattle.model.specs.Restart.{restarted, restart-checks, restart-by, restart-areas}
-use Rattle.model.specs.OnBytes.{Call, format, commit, write-out, restart, Lent, Result, lengths-ok, read-pages, read-log, read-areas, outcome, call-by, call, store-all-bytes, lent-after}
+use Rattle.model.specs.OnBytes.{Call, format, commit, write-out, restart, Lent, lengths-ok, read-pages, read-log, read-areas, outcome, call-by, call, store-all-bytes, lent-after}
 use Rattle.model.specs.Update as update
 use Rattle.area_laws.specs.Logs.{read-log-length}
 use Rattle.area_laws.specs.Pages.{read-pages-length}
 use Rattle.area_laws.specs.Typed.{formatted-length}
-use Rattle.lend.specs.Lent.{lent, Sized, lengths-numbers}
+use Rattle.lend.specs.Lent.{Sized, lengths-numbers}
 use Rattle.store.specs.Cut.{slot-stores-length, page-stores-length}
 use Rattle.store.specs.WriteOut.{log-stores-length}
 use Rattle.slots_laws.specs.Restarting.{restarted-within}

@@ -1,21 +1,19 @@
 -- What a call answers and leaves, as the definitions say it: of calls that change nothing, that leave a run, and that store.
-use mathlib.Core.Path.{_≡_, refl, ap, ap₂, sym, _∙_, subst}
-use Prim.Native.Nat.{ℕ, zero, suc, _*_, _/_, _≤_}
+use mathlib.Core.Path.{_≡_, refl, ap, sym, _∙_}
+use Prim.Native.Nat.{ℕ, zero, suc, _*_, _/_}
 use mathlib.Core.Bool.{Bool, true, false}
 use mathlib.Core.List.{List, [], _∷_, _++_, map}
 use lib.ListN.{length, take}
 use Rattle.layout.specs.declared.Desk.{Desk}
 use Rattle.layout.specs.Pages.{Page}
-use Rattle.layout.specs.PageBytes.{Block, page, page-size, page-bytes, block-bytes}
+use Rattle.layout.specs.PageBytes.{page, page-size, page-bytes, block-bytes}
 use Rattle.layout.specs.RecordBytes.{slot-size}
-use Rattle.layout.specs.Records.{Rec}
-use Rattle.model.specs.declared.Refusal.{Refusal}
 use Rattle.model.specs.declared.Refusal.the-variants.{Lengths}
 use Rattle.model.specs.declared.Answer.{Answer}
 use Rattle.model.specs.declared.Answer.the-variants.{Refused}
 use Rattle.model.specs.Log.{last-number, log-area}
 use Rattle.model.specs.Areas.{Store, log-stores}
-use Rattle.model.specs.Answers.{Outcome, refuse}
+use Rattle.model.specs.Answers.{Outcome}
 use Rattle.model.specs.Batches.{desk-of}
 use Rattle.model.specs.Update.{Run}
 use Rattle.model.specs.Calls.{run-side, kept-run, stored-run, unchanged}
@@ -26,7 +24,6 @@ use Rattle.slot.specs.Areas.{slots-back}
 use Rattle.areas.specs.Bridge.{read-pages-is, read-log-is, pages-bytes-is, log-bytes-is}
 use Rattle.area_laws.specs.Logs.{log-filled}
 use Rattle.lend.specs.Lent.{lent, Sized, lengths-numbers}
-use Rattle.redo.specs.Pages.{Pages}
 use Rattle.run.specs.declared.Run as run
 use Rattle.run.specs.Shows.{Shows}
 use Rattle.replies.specs.declared.Reply.{Reply}

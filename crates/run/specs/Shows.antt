@@ -1,24 +1,23 @@
 -- The working areas show a run of updates: its pages, its log, and where it stands.
 use mathlib.Core.Path.{_≡_, refl, ap, sym, _∙_, subst}
-use Prim.Native.Nat.{ℕ, zero, suc, _+_, _-_, _*_, _<_, _≤_}
+use Prim.Native.Nat.{ℕ, suc, _+_, _-_, _*_, _<_, _≤_}
 use native.Mathlib.Numerals.{add-one}
 use native.Mathlib.Omega.{arith}
-use mathlib.Core.Logic.{_≢_}
-use mathlib.Core.Bool.{Bool, true, false, _&&_}
+use mathlib.Core.Bool.{true, false}
 use mathlib.Core.List.{List, [], _∷_, _++_, append-nil}
 use lib.ListN.{length, length-append}
-use lib.Dec.{leb, eqb}
+use lib.Dec.{leb}
 use Rattle.base.specs.Tests.{eq-true, neq-false, le-true, le-false}
 use Rattle.layout.specs.Pages.{Page}
 use Rattle.layout.specs.Records.{Rec, Kind, batch-row}
-use Rattle.layout.specs.RecordBytes.{slot-size, full, record-bytes, slot-bytes}
+use Rattle.layout.specs.RecordBytes.{slot-size, record-bytes, slot-bytes}
 use Rattle.model.specs.Log.{slots-from}
 use Rattle.model.specs.Change.{changes, shape}
 use Rattle.model.specs.Redo.{when-named, places, redo-places, redo-record}
-use Rattle.model.specs.Update.{Run, going, stopped, logged, emit-by, emit, fresh, taking-by, emit-taking}
+use Rattle.model.specs.Update.{Run, going, stopped, logged, emit-by, emit}
 use Rattle.model.specs.OnBytes.{joined, log-bytes, put-part}
 use Rattle.bytes.specs.Patch.{patch}
-use Rattle.area_laws.specs.Held.{Holds, put-is}
+use Rattle.area_laws.specs.Held.{put-is}
 use Rattle.area_laws.specs.Logs.{HoldsLog, log-put}
 use Rattle.width_laws.specs.Acting.{Narrow, act-fits}
 use Rattle.redo.specs.Pages.{Pages}

@@ -9,7 +9,7 @@ use lib.Dec.{leb, eqb}
 use Rattle.base.specs.Tests.{Case, yes!, no!, case, eq-true, neq-false}
 use Rattle.layout.specs.Pages.{Page, at}
 use Rattle.layout.specs.Records.{Rec}
-use Rattle.model.specs.Update.{Run, going, stopped, emit, highest, fresh, taking-by, emit-taking}
+use Rattle.model.specs.Update.{Run, going, emit, highest, fresh, taking-by, emit-taking}
 use Rattle.page.specs.declared.Page as program
 use Rattle.page.specs.Typed.{typed}
 use Rattle.page.specs.Kinds.{used-marks-node, used-marks-map}

@@ -28,7 +28,7 @@ use Rattle.redo.specs.Pages.{Pages}
 use Rattle.run.specs.Shows.{Shows}
 use Rattle.pending.specs.Rows as rows
 use Rattle.sound.specs.declared.Standing.{Standing}
-use Rattle.sound.specs.Rows.{OpenRow, LiveRow, Opens, Lives, rows-counted}
+use Rattle.sound.specs.Rows.{rows-counted}
 
 -- The pages and the log that areas show, as the definitions read them.
 abbrev pub pages-in : List ℕ → List Page
@@ -71,13 +71,6 @@ module _ {n m : ℕ} {wp wl sl : List ℕ} {d : Desk} {r : Standing} {xs : List 
   -- Whether a key is held.
   pub known-rows : rows.Known m wl (d .rows) l (open-batches l)
   known-rows = record { reads = k .reads; holds = k .holds; rows = k .rows }
-
-  -- The place of an open batch.
-  pub known-open : (b p : ℕ) → Opens (d .rows) b p → OpenRow (d .rows) (open-batches l) b p
-  known-open b p o = o l (open-batches l) (k .holds) (k .rows)
-
-  pub known-live : (b p : ℕ) → Lives (d .rows) (r .marked) b p → LiveRow (d .rows) (open-batches l) b p
-  known-live b p o = o l (open-batches l) (k .holds) (k .rows) (k .marked)
 
   -- The numbers that reserves are judged by, and their bounds.
   pub known-used : place-of 0 (d .rows) ≡ length (open-batches l)

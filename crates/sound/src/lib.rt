@@ -5,7 +5,6 @@ use checks::layouts_ok;
 use checks::numbers_ok;
 use checks::reserves_ok;
 use checks::stored_ok;
-use desk::row_place;
 use desk::used_rows;
 use judge::judge_log;
 use judge::pending_total;
@@ -18,7 +17,6 @@ ghost use Prim.Native.Nat.{_*_, _≤_};
 ghost use lib.ListN.{length};
 ghost use Rattle.judge.specs.Accepted.{total, LowRows};
 ghost use Rattle.page.specs.Areas.{pages-of};
-ghost use Rattle.sound.specs.Rows.{Opens, Lives};
 ghost use Rattle.sound.specs.Reserved.{Reserved};
 ghost use Rattle.sound.specs.Standing.{Stands};
 
@@ -98,28 +96,4 @@ pub fn standing_of(wp: &[u8], wl: &[u8], sl: &[u8], n: usize, m: usize, d: Desk)
         return unsound();
     }
     s
-}
-
-// The place of an open batch's row on the desk, or 8. Batch 0 is never open.
-pub fn open_row(d: Desk, b: u32) -> usize
-    ensures { λ r. ⌜ (r ≤ 8) × Opens (d .rows) b r ⌝ }
-{
-    if b == 0 {
-        return 8;
-    }
-    row_place(d, b)
-}
-
-// The place of the row of an open batch without abort mark, or 8.
-pub fn live_row(d: Desk, marked: [bool; 8], b: u32) -> usize
-    ensures { λ r. ⌜ (r ≤ 8) × Lives (d .rows) marked b r ⌝ }
-{
-    let i = open_row(d, b);
-    if i == 8 {
-        return 8;
-    }
-    if marked[i] {
-        return 8;
-    }
-    i
 }

@@ -3,10 +3,9 @@ use borrow.Author.Needs.{needs}
 use Rattle.call.proofs.begin_in.Statement.{statement}
 use Rattle.call.proofs.begin_in.Tie as tie
 use borrow.Author.Tests.{not-true, not-false}
-use mathlib.Core.Path.{_≡_, _∙_, sym, ap, refl}
+use mathlib.Core.Path.{_∙_, sym, ap, refl}
 use native.Mathlib.Numerals.{add-one}
 use native.Mathlib.Omega.{arith}
-use lib.ListN.{set}
 use Rattle.layout.specs.declared.Desk.{Desk}
 use Rattle.layout.specs.Records.{kind-of}
 use Rattle.model.specs.Calls.{run-of}

@@ -2,7 +2,7 @@
 use borrow.Author.Needs.{needs}
 use Rattle.call.proofs.delete_in.Statement.{statement}
 use Rattle.call.proofs.delete_in.Tie as tie
-use mathlib.Core.Path.{_≡_, _∙_, sym, ap, refl}
+use mathlib.Core.Path.{_∙_, sym, ap, refl}
 use Prim.Native.Nat.{_<_}
 use native.Mathlib.Omega.{arith}
 use Rattle.layout.specs.Records.{kind-of}

@@ -5,8 +5,6 @@ use Rattle.call.proofs.fetch_in.Tie as tie
 use mathlib.Core.Path.{_∙_, sym, ap, refl}
 use native.Mathlib.Omega.{arith}
 use Rattle.lookup.specs.Answers.{value-of}
-use Rattle.model.specs.Sound.{work-log, work-open}
-use Rattle.call.specs.Given.{areas}
 use Rattle.call.specs.Questions.{held-known, fetched-read, fetch-12, fetch-14, fetch-16, fetch-0}
 use Rattle.call.proofs.Absent.{no-value}
 

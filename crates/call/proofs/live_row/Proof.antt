@@ -2,13 +2,8 @@
 use borrow.Author.Needs.{needs}
 use Rattle.call.proofs.live_row.Statement.{statement}
 use Rattle.call.proofs.live_row.Tie as tie
-use mathlib.Core.Path.{_≡_, sym, _∙_, ap, subst}
-use mathlib.Core.Logic.{inl, inr}
-use mathlib.Core.Bool.{Bool, true, false}
-use mathlib.Core.List.{List}
-use Prim.Native.Nat.{ℕ, _≤_, _<_}
+use mathlib.Core.Path.{sym, _∙_}
 use native.Mathlib.Omega.{arith}
-use lib.ListN.{getD}
 use Rattle.call.specs.Given.{live-8-none, live-8-marked, live-there}
 
 open-row-requires : tie.Need-open-row-requires

@@ -4,7 +4,6 @@ use Rattle.call.proofs.present.Statement.{statement}
 use Rattle.call.proofs.present.Tie as tie
 use mathlib.Core.Path.{sym, _∙_, ap}
 use Rattle.model.specs.Fit.{found}
-use Rattle.lookup.specs.Answers.{value-of}
 use Rattle.call.proofs.Absent.{no-value, a-value}
 
 fetched-requires : tie.Need-fetched-requires

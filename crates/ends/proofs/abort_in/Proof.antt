@@ -2,13 +2,12 @@
 use borrow.Author.Needs.{needs}
 use Rattle.ends.proofs.abort_in.Statement.{statement}
 use Rattle.ends.proofs.abort_in.Tie as tie
-use mathlib.Core.Path.{_≡_, _∙_, sym, ap, refl}
+use mathlib.Core.Path.{_∙_, ap, refl}
 use Prim.Native.Nat.{_<_}
 use native.Mathlib.Omega.{arith}
 use Rattle.layout.specs.declared.Desk.{Desk}
 use Rattle.model.specs.Calls.{run-of}
 use Rattle.model.specs.Sound.{work-open}
-use Rattle.model.specs.OnBytes.{read-areas}
 use Rattle.desk_laws.specs.Opened.{batch-at}
 use Rattle.call.specs.Given.{areas, live-not, row-is}
 use Rattle.ends.specs.Ends.{abort-12, abort-0, batch-sits, batch-fits}

@@ -2,7 +2,7 @@
 use borrow.Author.Needs.{needs}
 use Rattle.ends.proofs.commit_in.Statement.{statement}
 use Rattle.ends.proofs.commit_in.Tie as tie
-use mathlib.Core.Path.{_≡_, _∙_, sym, ap, refl}
+use mathlib.Core.Path.{_∙_, ap, refl}
 use Prim.Native.Nat.{_<_}
 use native.Mathlib.Omega.{arith}
 use Rattle.layout.specs.declared.Desk.{Desk}

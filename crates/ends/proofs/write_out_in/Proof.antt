@@ -2,7 +2,7 @@
 use borrow.Author.Needs.{needs}
 use Rattle.ends.proofs.write_out_in.Statement.{statement}
 use Rattle.ends.proofs.write_out_in.Tie as tie
-use mathlib.Core.Path.{_≡_, _∙_, refl}
+use mathlib.Core.Path.{refl}
 use native.Mathlib.Omega.{arith}
 use Rattle.ends.specs.Ends.{write-out-0}
 

@@ -5,7 +5,6 @@ use Rattle.grow.proofs.descend_add.Tie as tie
 use mathlib.Core.Path.{_≡_, refl, _∙_}
 use Prim.Native.Nat.{_-_}
 use native.Mathlib.Omega.{arith}
-use mathlib.Core.List.{List}
 use lib.ListN.{length}
 use Rattle.grow.specs.Rooms.{Down, down-step, down-end, level-is}
 

@@ -2,7 +2,7 @@
 use borrow.Author.Needs.{needs}
 use Rattle.grow.proofs.split_of.Statement.{statement}
 use Rattle.grow.proofs.split_of.Tie as tie
-use mathlib.Core.Path.{_∙_, ap, ap₂}
+use mathlib.Core.Path.{_∙_, ap₂}
 use Prim.Native.Nat.{ℕ}
 use mathlib.Core.List.{List}
 use Rattle.layout.specs.declared.Entry.{Entry}

@@ -2,7 +2,6 @@
 use borrow.Author.Needs.{needs}
 use Rattle.register.proofs.commit_within.Statement.{statement}
 use Rattle.register.proofs.commit_within.Tie as tie
-use mathlib.Core.Path.{_≡_, refl}
 use native.Mathlib.Omega.{arith}
 use Rattle.model.specs.OnBytes as calls
 use Rattle.model.specs.OnBytes.{refused-desk}

@@ -3,7 +3,7 @@ use borrow.Author.Needs.{needs}
 use Rattle.register.proofs.format_within.Statement.{statement}
 use Rattle.register.proofs.format_within.Tie as tie
 use borrow.Author.Tests.{not-true, not-false}
-use mathlib.Core.Path.{_≡_, _∙_, sym, refl}
+use mathlib.Core.Path.{_∙_, sym, refl}
 use Rattle.model.specs.OnBytes as calls
 use Rattle.model.specs.OnBytes.{refused-desk}
 use Rattle.lend.specs.Lent.{lengths-numbers}

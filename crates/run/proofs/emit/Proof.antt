@@ -8,7 +8,7 @@ use native.Mathlib.Numerals.{add-one}
 use native.Mathlib.Omega.{arith}
 use Rattle.change.specs.Pages.{rec}
 use Rattle.redo.specs.Records.{Keeps}
-use Rattle.run.specs.Shows.{Shows, emit-stuck, emit-full, emit-logs}
+use Rattle.run.specs.Shows.{emit-stuck, emit-full, emit-logs}
 
 returns : tie.Need-returns
 returns c s h keeps = let a = c .before .before .before .before .args in emit-stuck h (rec (a .r)) (c .if1 .taken)

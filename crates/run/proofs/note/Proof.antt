@@ -5,7 +5,7 @@ use Rattle.run.proofs.note.Tie as tie
 use native.Mathlib.Numerals.{add-one}
 use native.Mathlib.Omega.{arith}
 use Rattle.layout.specs.Records.{kind-of, batch-row}
-use Rattle.run.specs.Shows.{Shows, emit-stuck, emit-full, emit-notes}
+use Rattle.run.specs.Shows.{emit-stuck, emit-full, emit-notes}
 
 returns : tie.Need-returns
 returns c =
