@@ -1,0 +1,154 @@
+/* Runs the commands of vectors/README.md, read from standard input, over the C interface, and prints a line for each call. */
+#include "instrument.h"
+#include <inttypes.h>
+#include <stdio.h>
+#include <stdlib.h>
+#include <string.h>
+
+enum { LINE = 256, MOST_NUMBERS = 4 };
+
+struct command {
+    char letter;
+    int count;
+    uint64_t numbers[MOST_NUMBERS];
+};
+
+/* FNV-1a of 64 bits. A zero byte only multiplies by the prime, so the zeros at an area's end are one power of it. */
+static uint64_t hash_of(const uint8_t *bytes, size_t length)
+{
+    const uint64_t prime = 0x00000100000001b3;
+    uint64_t hash = 0xcbf29ce484222325, power = prime;
+    size_t used = length;
+    while (used > 0 && bytes[used - 1] == 0)
+        used--;
+    for (size_t i = 0; i < used; i++)
+        hash = (hash ^ bytes[i]) * prime;
+    for (size_t zeros = length - used; zeros > 0; zeros /= 2) {
+        if (zeros % 2 == 1)
+            hash *= power;
+        power *= power;
+    }
+    return hash;
+}
+
+/* A letter and its numbers, one space between, digits only. Returns 0 where the line is none. */
+static int read_command(const char *line, struct command *to)
+{
+    const char *at = line;
+    if (*at == '\0' || *at == ' ')
+        return 0;
+    to->letter = *at++;
+    for (to->count = 0; *at == ' '; to->count++) {
+        at++;
+        if (*at < '0' || *at > '9' || to->count == MOST_NUMBERS)
+            return 0;
+        uint64_t number = 0;
+        while (*at >= '0' && *at <= '9')
+            number = number * 10 + (uint64_t)(*at++ - '0');
+        to->numbers[to->count] = number;
+    }
+    return *at == '\0';
+}
+
+static void copy_areas(struct area to[AREAS], const struct area from[AREAS])
+{
+    for (int i = 0; i < AREAS; i++) {
+        to[i].bytes = realloc(to[i].bytes, from[i].length + 1);
+        if (to[i].bytes == NULL)
+            exit(2);
+        to[i].length = from[i].length;
+        if (from[i].length > 0)
+            memcpy(to[i].bytes, from[i].bytes, from[i].length);
+    }
+}
+
+static void print_hashes(const struct instrument *in)
+{
+    for (int i = 0; i < AREAS; i++)
+        printf(" %016" PRIx64, hash_of(in->areas[i].bytes, in->areas[i].length));
+    printf(" %016" PRIx64 "\n", hash_of(in->desk, sizeof in->desk));
+}
+
+/* A call, cut after `cut` of its stores where that is not negative. */
+static void run_call(struct instrument *in, struct call made, int64_t cut, struct area before[AREAS])
+{
+    uint8_t desk[DONZHIKAR_DESK_BYTES];
+    char text[64];
+    memcpy(desk, in->desk, sizeof desk);
+    copy_areas(before, in->areas);
+    uint32_t reason = make(in, made);
+    size_t stores = stores_of(in, made, reason, desk, &before[STABLE_LOG]);
+    size_t carried = cut < 0 || (uint64_t)cut > stores ? stores : (size_t)cut;
+    answer_text(text, sizeof text, made.letter, reason, in->values);
+    if (cut >= 0)
+        pull_plug(in, made, stores, carried, before);
+    printf("%c %s s %zu", made.letter, cut >= 0 ? "K" : text, carried);
+    print_hashes(in);
+}
+
+static int lend_lengths(struct instrument *in, const struct command *command)
+{
+    size_t lengths[AREAS];
+    if (command->count != AREAS)
+        return 0;
+    for (int i = 0; i < AREAS; i++)
+        lengths[i] = (size_t)command->numbers[i];
+    lend(in, lengths);
+    return 1;
+}
+
+static int damage(struct instrument *in, const struct command *command)
+{
+    const uint64_t *n = command->numbers;
+    if (command->count != 3 || n[0] >= AREAS || n[2] > 255)
+        return 0;
+    if (n[1] < in->areas[n[0]].length)
+        in->areas[n[0]].bytes[n[1]] ^= (uint8_t)n[2];
+    return 1;
+}
+
+/* Carries out one command. Returns 0 where there is no such command. */
+static int run(struct instrument *in, const struct command *command, int64_t *cut, struct area before[AREAS])
+{
+    struct call made = { command->letter, { 0, 0, 0 } };
+    if (command->letter == 'L')
+        return lend_lengths(in, command);
+    if (command->letter == 'P')
+        return damage(in, command);
+    if (command->letter == 'K' && command->count == 1) {
+        *cut = (int64_t)command->numbers[0];
+        return 1;
+    }
+    if (numbers_of(command->letter) != command->count)
+        return 0;
+    for (int i = 0; i < command->count; i++) {
+        if (command->numbers[i] > UINT32_MAX)
+            return 0;
+        made.numbers[i] = (uint32_t)command->numbers[i];
+    }
+    run_call(in, made, *cut, before);
+    *cut = -1;
+    return 1;
+}
+
+int main(void)
+{
+    static struct instrument in;
+    struct area before[AREAS] = { { NULL, 0 }, { NULL, 0 }, { NULL, 0 }, { NULL, 0 } };
+    const size_t none[AREAS] = { 0, 0, 0, 0 };
+    char line[LINE];
+    struct command command;
+    int64_t cut = -1;
+    lend(&in, none);
+    for (unsigned number = 1; fgets(line, sizeof line, stdin) != NULL; number++) {
+        line[strcspn(line, "\n")] = '\0';
+        if (!read_command(line, &command) || !run(&in, &command, &cut, before)) {
+            fprintf(stderr, "line %u is no command\n", number);
+            return 1;
+        }
+    }
+    for (int i = 0; i < AREAS; i++)
+        free(before[i].bytes);
+    give_back(&in);
+    return 0;
+}
