@@ -1,0 +1,20 @@
+-- `with_three`: one letter.
+use Rattle.command.proofs.with_three.Statement.{statement}
+use Rattle.command.proofs.with_three.Tie as tie
+use Rattle.command.proofs.with_three.Reads as reads
+use Rattle.command.proofs.with_three.Lts as lts
+use mathlib.Core.Path.{_≡_, refl, ap, sym, _∙_}
+use native.Mathlib.Omega.{arith}
+use Rattle.base.specs.Tests.{eq-true, neq-false, lt-true, lt-false, le-true, le-false}
+use Rattle.command.specs.Commands.{with-three}
+
+returns : tie.Need-returns
+unfolding with-three
+returns c = rw (with-three, eq-true _ _ (c .if1 .taken))
+
+returns-2 : tie.Need-returns-2
+unfolding with-three
+returns-2 c = rw (with-three, neq-false (c .if1 .left))
+
+pub with-three-spec : {M : Type 1} → statement M
+with-three-spec = tie.close (tie.spec returns returns-2)
