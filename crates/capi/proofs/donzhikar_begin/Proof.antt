@@ -1,0 +1,59 @@
+-- `donzhikar_begin`: refused by a length, or what the call replies.
+use borrow.Author.Needs.{needs}
+use Rattle.capi.proofs.donzhikar_begin.Statement.{statement}
+use Rattle.capi.proofs.donzhikar_begin.Tie as tie
+use Rattle.capi.proofs.donzhikar_begin.Reads as reads
+use Rattle.capi.proofs.donzhikar_begin.Lts as lts
+use Rattle.capi.proofs.give.Reads as give-reads
+use Rattle.desk.proofs.get_desk.Reads as get-desk-reads
+use Rattle.register.proofs.begin.Reads as begin-reads
+use Rattle.model.specs.OnBytes.{begin}
+use Rattle.lend.specs.Lent.{lent}
+use Rattle.capi.specs.Returned.{wrong-desk, wrong-values, replied}
+
+returns : tie.Need-returns
+returns c =
+    let a = c .before .before .before .before .before .before .before .args in
+    wrong-desk begin (lent (a .wp .now) (a .sp .now) (a .wl .now) (a .sl .now)) (a .desk .now) (a .values .now) (c .if1 .taken)
+
+returns-2 : tie.Need-returns-2
+returns-2 c =
+    let a = c .before .before .before .before .before .before .before .before .args in
+    wrong-values begin (lent (a .wp .now) (a .sp .now) (a .wl .now) (a .sl .now)) (a .desk .now) (a .values .now) (c .before .if1 .left) (c .if2 .taken)
+
+get-desk-requires : tie.Need-get-desk-requires
+get-desk-requires c κs = search needs
+
+begin-requires : tie.Need-begin-requires
+begin-requires c κs = search needs
+
+give-requires : tie.Need-give-requires
+give-requires c κs = search needs
+
+same-length : tie.Need-same-length
+same-length c = search needs
+
+same-length-2 : tie.Need-same-length-2
+same-length-2 c = search needs
+
+same-length-3 : tie.Need-same-length-3
+same-length-3 c = search needs
+
+returns-3 : tie.Need-returns-3
+returns-3 c =
+    let a = c .before .before .before .before .before .before .before .before .before .before .before .before .before .before .before .before .before .before .before .before .before .args in
+    replied begin (lent (a .wp .now) (a .sp .now) (a .wl .now) (a .sl .now)) (a .desk .now) (a .values .now) _ _ _ _ _ _ (c .before .before .before .before .before .before .before .before .before .before .before .before .before .before .if1 .left) (c .before .before .before .before .before .before .before .before .before .before .before .before .before .if2 .left) (c .before .before .before .before .before .before .before .before .before .before .before .get-desk .ensures) (c .before .before .before .before .before .before .before .before .before .begin .ensures _) (c .before .before .before .before .give .ensures .0) (c .before .before .before .before .give .ensures .1) (c .before .before .before .before .give .ensures .2)
+
+pub donzhikar-begin-spec : {M : Type 1} → statement M
+donzhikar-begin-spec =
+    tie.close
+    (tie.spec
+    returns
+    returns-2
+    get-desk-requires
+    begin-requires
+    give-requires
+    same-length
+    same-length-2
+    same-length-3
+    returns-3)
