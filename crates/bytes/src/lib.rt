@@ -3,8 +3,10 @@
 // Every store is said as a patch: the area as it was, with new bytes from one place on. Whoever writes to an area cites the laws of
 // `patch` and never a store of a single byte.
 ghost use mathlib.Core.Path.{_≡_};
+ghost use mathlib.Core.Bool.{_&&_};
 ghost use Prim.Native.Nat.{_+_, _*_, _/_, _%_, _≤_, _<_};
 ghost use lib.ListN.{length, take, drop};
+ghost use lib.Dec.{eqb};
 ghost use Rattle.layout.specs.Numbers.{be32, put32, same-bytes, zeros};
 ghost use Rattle.bytes.specs.Words.{part};
 ghost use Rattle.bytes.specs.Patch.{patch};
@@ -66,7 +68,17 @@ pub fn zero_part(dst: &mut [u8], a: usize, n: usize)
     zero(&mut dst[a..a + n]);
 }
 
-// Whether two areas hold the same bytes: eight at a time, and the rest one by one.
+// Whether two bytes more are alike where all before them are: no early end, so that many are compared at a time.
+fn still_same(equal: bool, x: u8, y: u8) -> bool
+    ensures { λ r. ⌜ r ≡ (equal && eqb x y) ⌝ }
+{
+    if x != y {
+        return false;
+    }
+    equal
+}
+
+// Whether two areas hold the same bytes.
 pub fn same(s: &[u8], t: &[u8]) -> bool
     ensures { λ r. ⌜ r ≡ same-bytes (now (s .entry)) (now (t .entry)) ⌝ }
 {
@@ -74,23 +86,13 @@ pub fn same(s: &[u8], t: &[u8]) -> bool
     if t.len() != n {
         return false;
     }
+    let mut equal = true;
     let mut i = 0;
-    while 8 <= n - i {
-        if get32(s, i) != get32(t, i) {
-            return false;
-        }
-        if get32(s, i + 4) != get32(t, i + 4) {
-            return false;
-        }
-        i += 8;
-    }
     while i < n {
-        if s[i] != t[i] {
-            return false;
-        }
+        equal = still_same(equal, s[i], t[i]);
         i += 1;
     }
-    true
+    equal
 }
 
 pub fn same_part(s: &[u8], a: usize, t: &[u8], b: usize, n: usize) -> bool
@@ -100,18 +102,16 @@ pub fn same_part(s: &[u8], a: usize, t: &[u8], b: usize, n: usize) -> bool
     same(&s[a..a + n], &t[b..b + n])
 }
 
-// Whether all bytes are zero, by words; the length is a multiple of four.
+// Whether all bytes are zero.
 pub fn is_zero(s: &[u8]) -> bool
-    requires { ⌜ length (now s) % 4 ≡ 0 ⌝ }
     ensures { λ r. ⌜ r ≡ same-bytes (zeros (length (now (s .entry)))) (now (s .entry)) ⌝ }
 {
     let n = s.len();
+    let mut clear = true;
     let mut i = 0;
     while i < n {
-        if get32(s, i) != 0 {
-            return false;
-        }
-        i += 4;
+        clear = still_same(clear, 0, s[i]);
+        i += 1;
     }
-    true
+    clear
 }

@@ -31,6 +31,10 @@ pub record Shows (bs : List Batch) (j : Judged) : Type 0 where
   pub rows : j .desk .rows ≡ eight-rows (map row-of bs)
   pub marks : j .marked ≡ eight false (marks-of bs)
 
+-- The desk and the marks are all that it takes.
+pub shows-as : (bs : List Batch) (j : Judged) → Shows bs j → Shows bs (right-with (j .desk) (j .marked))
+shows-as bs j s = record { rows = s .rows; marks = s .marks }
+
 -- ---- a batch's place among those open
 
 pub record Found (n : ℕ) (bs : List Batch) (p : ℕ) : Type 0 where

@@ -21,7 +21,7 @@ use Rattle.chain.specs.declared.Judged.{Judged}
 use Rattle.chain.specs.declared.Told.{Told}
 use Rattle.lines.specs.Holding.{Sits, Holds}
 use Rattle.chain.specs.Eights.{closing}
-use Rattle.chain.specs.Shown.{right-with, Shows, Found, Placed, found, absent, placed, eight-at, eight-change, eight-gone}
+use Rattle.chain.specs.Shown.{right-with, Shows, shows-as, Found, Placed, found, absent, placed, eight-at, eight-change, eight-gone}
 
 -- The numbers are a record's.
 pub record Tells (t : Told) (x : Rec) : Type 0 where
@@ -67,6 +67,12 @@ place-zero j n z log bs h s = absent refl (ap (λ (k : ℕ). find-batch k bs) z 
 
 pub place-row : (j : Judged) (n p : ℕ) → (n ≡ 0 → ⊥) → p ≡ place-of n (j .desk .rows) → Places j n p
 place-row j n p z e log bs h s = subst (λ (k : ℕ). Placed n bs k 8) (sym (e ∙ ap (place-of n) (s .rows))) (placed n bs (h .few) z)
+
+pub places-as : (j : Judged) (n p : ℕ) → Places (right-with (j .desk) (j .marked)) n p → Places j n p
+places-as j n p g log bs h s = g log bs h (shows-as bs j s)
+
+pub goes-as : (j : Judged) (t : Told) (p : ℕ) → GoesOn (right-with (j .desk) (j .marked)) t p → GoesOn j t p
+goes-as j t p g log bs x h s u = g log bs x h (shows-as bs j s) u
 
 -- What the program has at the place.
 module _ (j : Judged) (n p : ℕ) (bs : List Batch) (s : Shows bs j) (f : Found n bs p) (l : p < 8) (w : length bs ≤ 8) where

@@ -8,7 +8,8 @@ use layout::Row;
 use lines::Line;
 use lines::line_at;
 ghost use mathlib.Core.Path.{_≡_};
-ghost use mathlib.Core.Bool.{true, false};
+ghost use mathlib.Core.Bool.{Bool, true, false};
+ghost use mathlib.Core.List.{List};
 ghost use Prim.Native.Nat.{_+_, _*_, _≤_, _<_};
 ghost use lib.ListN.{length, set};
 ghost use Rattle.layout.specs.Numbers.{tab};
@@ -49,32 +50,45 @@ pub fn refused(j: Judged) -> Judged
 }
 
 // The place of an open batch's row, or 8. Batch 0 is never open.
-fn place(j: Judged, batch: u32) -> usize
-    ensures { λ r. ⌜ (r ≤ 8) × Places j batch r ⌝ }
+fn open_place(desk: Desk, batch: u32) -> usize
+    ensures { λ r. ⌜ (r ≤ 8) × ((marked : List Bool) → Places (right-with desk marked) batch r) ⌝ }
 {
     if batch == 0 {
         return 8;
     }
-    let desk = j.desk;
     row_place(desk, batch)
 }
 
-// The place of the record's batch if that has no abort mark and the record names its last one, else 8.
-fn goes_on(j: Judged, t: Told) -> usize
-    ensures { λ r. ⌜ (r ≤ 8) × GoesOn j t r ⌝ }
+fn place(j: Judged, batch: u32) -> usize
+    ensures { λ r. ⌜ (r ≤ 8) × Places j batch r ⌝ }
 {
-    let i = place(j, t.batch);
+    let desk = j.desk;
+    open_place(desk, batch)
+}
+
+// The place of the record's batch if that has no abort mark and the record names its last one, else 8.
+pub fn going_on(desk: Desk, marked: [bool; 8], t: Told) -> usize
+    ensures { λ r. ⌜ (r ≤ 8) × GoesOn (right-with desk marked) t r ⌝ }
+{
+    let i = open_place(desk, t.batch);
     if i == 8 {
         return 8;
     }
-    if j.marked[i] {
+    if marked[i] {
         return 8;
     }
-    let desk = j.desk;
     if desk.rows[i].last != t.previous {
         return 8;
     }
     i
+}
+
+fn goes_on(j: Judged, t: Told) -> usize
+    ensures { λ r. ⌜ (r ≤ 8) × GoesOn j t r ⌝ }
+{
+    let desk = j.desk;
+    let marked = j.marked;
+    going_on(desk, marked, t)
 }
 
 fn keep_mark(marked: [bool; 8], i: usize, k: usize) -> bool

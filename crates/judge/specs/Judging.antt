@@ -24,7 +24,7 @@ use Rattle.chain.specs.declared.Judged.{Judged}
 use Rattle.lines.specs.Holding.{Holds, holds-none, holds-step}
 use Rattle.lines.specs.Reading.{Reads, reads-few}
 use Rattle.chain.specs.Eights.{eight}
-use Rattle.chain.specs.Shown.{Shows, marks-of}
+use Rattle.chain.specs.Shown.{right-with, Shows, shows-as, marks-of}
 use Rattle.chain.specs.Families.{Low}
 use Rattle.judge.specs.Turns.{Turned, Turns}
 
@@ -62,6 +62,25 @@ going-start n m b j s =
       told-so = refl;
       count = omega arith;
     }
+
+-- The desk and the marks are all that it takes.
+pub going-shown : (n m : ℕ) (b : List ℕ) (i : ℕ) (j : Judged) → Going n m b i j → Going n m b i (right-with (j .desk) (j .marked))
+going-shown n m b i j g =
+    record {
+      log = g .log;
+      bs = g .bs;
+      size = g .size;
+      reads = g .reads;
+      holds = g .holds;
+      shows = shows-as (g .bs) j (g .shows);
+      slots = g .slots;
+      chain = g .chain;
+      told-so = g .told-so;
+      count = g .count;
+    }
+
+pub going-by : (n m : ℕ) (b : List ℕ) (i : ℕ) (j k : Judged) → k ≡ j → Going n m b i j → Going n m b i k
+going-by n m b i j k e g = subst (Going n m b i) (sym e) g
 
 -- The counts in the rows are of records in the log.
 pub pending-at : (bs : List Batch) (i : ℕ) → row-at (map row-of bs) i .pending ≤ pending-count bs

@@ -1,3 +1,4 @@
+pub mod Updates
 pub mod Turns
 pub mod Rest
 pub mod Judging

@@ -3,12 +3,15 @@ use Prim.Native.Nat.{ℕ, suc, _*_}
 use mathlib.Core.Path.{_≡_, refl, sym, ap, _∙_, subst}
 use mathlib.Core.Bool.{Bool, true, false, _&&_}
 use mathlib.Core.List.{List}
-use lib.ListN.{length}
+use lib.ListN.{length, set}
 use lib.Dec.{eqb}
 use Rattle.base.specs.Tests.{clash, eq-true, neq-false}
 use Rattle.layout.specs.declared.Entry.{Entry}
+use Rattle.layout.specs.declared.Desk.{Desk}
+use Rattle.layout.specs.Desks.{row-at}
+use Rattle.layout.specs.Numbers.{be32}
 use Rattle.layout.specs.Records.{Rec, kind-of, kind-number}
-use Rattle.layout.specs.RecordBytes.{Slot, empty, full, other, slot-size, read-slot}
+use Rattle.layout.specs.RecordBytes.{Slot, empty, full, other, slot-size, record-fields, read-slot}
 use Rattle.layout.specs.Rows.{row, names-pages}
 use Rattle.model.specs.Batches.{Batch, tell, chain-step}
 use Rattle.bytes.specs.Words.{part}
@@ -18,11 +21,14 @@ use Rattle.slot.specs.Typed.{rec-of, typed-by}
 use Rattle.slot.specs.Codec.{kind-back}
 use Rattle.row.specs.Kept.{row-kept, pages-kept, row-kept-full, pages-kept-full}
 use Rattle.chain.specs.declared.Judged.{Judged}
+use Rattle.chain.specs.declared.Told.{Told}
 use Rattle.lines.specs.Holding.{Holds}
 use Rattle.lines.specs.Reading.{Reads}
-use Rattle.chain.specs.Shown.{Shows}
-use Rattle.chain.specs.Steps.{Stepped}
+use Rattle.chain.specs.Shown.{right-with, Shows}
+use Rattle.chain.specs.Steps.{Tells, Stepped, Steps, GoesOn}
+use Rattle.chain.specs.Families.{longer-row, updates-ask, halts, updates}
 use Rattle.chain.specs.Undos.{StepsIn}
+use Rattle.judge.specs.Updates.{told-by, Update, TellsUpdate}
 
 -- What a slot that should hold record k of a register of n pages makes of the batches.
 unfoldable pub Turned : ℕ → ℕ → Slot → List Batch → Judged → Type 0
@@ -86,3 +92,30 @@ module _ (n m : ℕ) (b : List ℕ) (i : ℕ) (j r : Judged) (h : Header) (es : 
           let g′ : Stepped (chain-step (suc i) x bs) (tell (x .kind) (suc i) x bs) r =
           subst (λ (y : ℕ). Stepped (chain-step y x bs) (tell (x .kind) y x bs) r) z g in
           as-turned bs (subst (λ (c : Bool). Stepped c (tell (x .kind) (suc i) x bs) r) (sym (rw (eq-true own (suc i) z, sym row-is ∙ w, sym pages-is ∙ v))) g′)
+
+-- A slot that holds an update, by its numbers alone.
+module _ (n m : ℕ) (b : List ℕ) (i : ℕ) (j : Judged) (t : Told) (u : TellsUpdate n m b i t) (p : ℕ) (g : GoesOn j t p) where
+  abbrev bytes : List ℕ
+  bytes = part b (slot-size * i) slot-size
+
+  by-step : (r : Judged) → Steps j t r → Turns n m b i j r
+  unfolding Turned record-fields
+  by-step r f log bs rd l hd s =
+      let own : t .own ≡ suc i = ap (λ (y : Told). y .own) (u .told) ∙ u .holds .number in
+      let w : Tells t (record-fields bytes) = subst (λ (y : Told). Tells y (record-fields bytes)) (sym (u .told)) tells in
+      let c = f log bs (record-fields bytes) hd s w (own ∙ ap suc (sym l)) in
+      let d : Stepped (chain-step (suc i) (record-fields bytes) bs) (tell (record-fields bytes .kind) (suc i) (record-fields bytes) bs) r =
+      subst (λ (y : ℕ). Stepped (chain-step y (record-fields bytes) bs) (tell (record-fields bytes .kind) y (record-fields bytes) bs) r) own c in
+      subst (λ (y : Slot). Turned n (suc i) y bs r) (sym (u .holds .reads))
+      (subst (λ (v : Bool). Stepped v (tell (record-fields bytes .kind) (suc i) (record-fields bytes) bs) r)
+      (sym (rw (eq-true (be32 bytes 4) (suc i) (u .holds .number), u .holds .row, u .holds .pages))) d)
+    where
+      tells : Tells (told-by bytes) (record-fields bytes)
+      tells = record { kind = refl; batch = refl; previous = refl; key = refl; second = refl }
+
+  pub update-halts : (r : Judged) → p ≡ 8 → r .ok ≡ false → Turns n m b i j r
+  update-halts r z o = by-step r (halts j t p (updates-ask (t .kind) (u .least) (u .most)) g r z o)
+
+  pub update-goes : (p ≡ 8 → ⊥) → (d : Desk) → d .rows ≡ set (j .desk .rows) p (longer-row (row-at (j .desk .rows) p) (t .own))
+      → Turns n m b i j (right-with d (j .marked))
+  update-goes z d v = by-step (right-with d (j .marked)) (updates j t p g z (u .least) (u .most) d v)

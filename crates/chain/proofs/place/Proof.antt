@@ -1,19 +1,16 @@
--- `place`: batch 0 is never open; any other is found among the rows.
+-- `place`: the desk alone says it.
 use borrow.Author.Needs.{needs}
 use Rattle.chain.proofs.place.Statement.{statement}
 use Rattle.chain.proofs.place.Tie as tie
-use Rattle.chain.specs.Steps.{place-zero, place-row}
+use Rattle.chain.specs.Steps.{places-as}
+
+open-place-requires : tie.Need-open-place-requires
+open-place-requires c κs = search needs
 
 returns : tie.Need-returns
-returns c = let a = c .before .args in (search needs, place-zero (a .j) (a .batch) (c .if1 .taken))
-
-row-place-requires : tie.Need-row-place-requires
-row-place-requires c κs = search needs
-
-returns-2 : tie.Need-returns-2
-returns-2 c =
-    let a = c .before .before .before .args in
-    (c .row-place .ensures .1, place-row (a .j) (a .batch) _ (c .before .before .if1 .left) (c .row-place .ensures .0))
+returns c =
+    let a = c .before .before .args in
+    (c .open-place .ensures .0, places-as (a .j) (a .batch) _ (c .open-place .ensures .1 (a .j .marked)))
 
 pub place-spec : {M : Type 1} → statement M
-place-spec = tie.close (tie.spec returns row-place-requires returns-2)
+place-spec = tie.close (tie.spec open-place-requires returns)
