@@ -5,8 +5,8 @@ use command::Line;
 use command::command_of;
 use command::new_line;
 use command::step;
+use desk::idle_desk;
 use layout::Desk;
-use layout::Row;
 use libc::STDIN_FILENO;
 use libc::STDOUT_FILENO;
 use model::Answer;
@@ -24,27 +24,12 @@ struct Heard {
     more: bool,
 }
 
-fn no_desk() -> Desk
-    ensures { λ r. ⌜ r ≡ empty-desk ⌝ }
-{
-    Desk {
-        rows: [Row {
-            batch: 0,
-            last: 0,
-            undo: 0,
-            pending: 0,
-        }; 8],
-        logged: 0,
-        stored: 0,
-    }
-}
-
 fn cut_and_restart(wp: &mut [u8], sp: &mut [u8], wl: &mut [u8], sl: &mut [u8]) -> Reply
     ensures { λ r. ⌜ Obeyed Cut (lent (now (wp .entry)) (now (sp .entry)) (now (wl .entry)) (now (sl .entry))) empty-desk r (lent (now (wp .exit)) (now (sp .exit)) (now (wl .exit)) (now (sl .exit))) ⌝ }
 {
     zero(wp);
     zero(wl);
-    register::restart(wp, sp, wl, sl, no_desk())
+    register::restart(wp, sp, wl, sl, idle_desk(0))
 }
 
 // A command carried out.
@@ -205,7 +190,7 @@ fn hear_all(wp: &mut [u8], sp: &mut [u8], wl: &mut [u8], sl: &mut [u8], h: Heard
 
 // A new register, and nothing read yet.
 fn begun(wp: &mut [u8], sp: &mut [u8], wl: &mut [u8], sl: &mut [u8]) -> Heard {
-    let y = register::format(wp, sp, wl, sl, no_desk());
+    let y = register::format(wp, sp, wl, sl, idle_desk(0));
     let d = y.desk;
     Heard {
         line: new_line(),

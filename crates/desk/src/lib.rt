@@ -5,11 +5,28 @@ use layout::Desk;
 use layout::Row;
 ghost use mathlib.Core.Path.{_≡_};
 ghost use Prim.Native.Nat.{_+_, _*_, _≤_, _<_};
-ghost use lib.ListN.{length, set};
+ghost use lib.ListN.{length, set, replicate};
 ghost use Rattle.layout.specs.Numbers.{chunks};
 ghost use Rattle.layout.specs.Desks.{no-row, row-at, row-bytes, desk-bytes, read-row, read-desk};
 ghost use Rattle.bytes.specs.Patch.{patch};
 ghost use Rattle.desk.specs.Rows.{place-of, kept, without, new-row};
+
+// The desk of a register in which no batch is open, and all of whose records are stored.
+pub fn idle_desk(logged: u32) -> Desk
+    ensures { λ d. ⌜ d ≡ record { rows = replicate 8 no-row; logged = logged; stored = logged } ⌝ }
+{
+    let rows = [Row {
+        batch: 0,
+        last: 0,
+        undo: 0,
+        pending: 0,
+    }; 8];
+    Desk {
+        rows,
+        logged,
+        stored: logged,
+    }
+}
 
 // The place of batch b's row, or 8. Of batch 0, which is never open, that is the first row not in use: "used rows come first".
 pub fn row_place(d: Desk, b: u32) -> usize

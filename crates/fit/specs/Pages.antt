@@ -2,7 +2,6 @@
 use mathlib.Core.Path.{_≡_, refl, ap, ap₂, sym, _∙_}
 use Prim.Native.Nat.{ℕ, suc, _+_, _-_, _<_, _≤_}
 use native.Mathlib.Omega.{arith}
-use native.Mathlib.Decide.{decLt}
 use mathlib.Core.Bool.{Bool, not, _&&_}
 use mathlib.Core.List.{List}
 use lib.ListN.{length, take, drop}
@@ -18,23 +17,13 @@ use Rattle.entries.specs.EntryBytes.{used}
 use Rattle.entries.specs.Arrays.{used-take}
 use Rattle.page.specs.declared.Page as program
 use Rattle.page.specs.Typed.{typed}
-use Rattle.page.specs.Kinds.{number-node, number-map, used-entries-node, used-entries-map}
+use Rattle.page.specs.Kinds.{kind-tested, used-entries-node, used-entries-map}
 use Rattle.model.specs.Change.{first-key}
 use Rattle.model.specs.Fit.{found, found-value, after, last-key-is, link-fits, side-by-side, is-leaf, is-index, is-node, at-level, children-in, fits-a, fits-b}
 use Rattle.change.specs.declared.Record.{Record}
 use Rattle.change.specs.Pages.{rec}
 
 -- ---- kinds
-
-kind-tested : (q k : ℕ) → k < 3 → eqb q k ≡ kind-is (page-kind q) (page-kind k)
-unfolding kind-is
-kind-tested q k h =
-    elim (decLt q 3) [
-      | yes l ↦ sym (rw (number-node q l, number-node k h))
-      | no l ↦
-          neq-false (λ (e : q ≡ k). omega arith)
-          ∙ sym (rw (number-map q (omega arith), number-node k h) (neq-false (λ (e : 3 ≡ k). omega arith)))
-    ]
 
 module _ (x : program.Page) where
   pub leaf-is : eqb (x .kind) 1 ≡ is-leaf (typed x)

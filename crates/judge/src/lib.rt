@@ -6,6 +6,7 @@ use chain::Told;
 use chain::going_on;
 use chain::refused;
 use chain::step;
+use desk::idle_desk;
 use layout::Desk;
 use layout::Row;
 use row::pages_ok;
@@ -15,7 +16,6 @@ use slot::kind_number;
 use slot::read_at;
 ghost use mathlib.Core.Path.{_≡_};
 ghost use mathlib.Core.Bool.{true};
-ghost use mathlib.Core.List.{[]};
 ghost use Prim.Native.Nat.{_+_, _*_, _≤_, _<_};
 ghost use lib.ListN.{length, drop};
 ghost use Rattle.base.specs.Tests.{every};
@@ -23,7 +23,7 @@ ghost use Rattle.layout.specs.RecordBytes.{read-slot};
 ghost use Rattle.model.specs.Log.{is-empty};
 ghost use Rattle.bytes.specs.Words.{part};
 ghost use Rattle.slot.specs.Areas.{slots-of};
-ghost use Rattle.chain.specs.Shown.{right-with, Shows};
+ghost use Rattle.chain.specs.Shown.{right-with};
 ghost use Rattle.chain.specs.Families.{Low};
 ghost use Rattle.judge.specs.Updates.{Update, TellsUpdate};
 ghost use Rattle.judge.specs.Turns.{Turns};
@@ -131,28 +131,6 @@ fn update_at(log: &[u8], m: usize, n: usize, i: usize) -> Told
     }
 }
 
-fn none_open() -> Judged
-    ensures { λ r. ⌜ Shows [] r ⌝ }
-{
-    let rows = [Row {
-        batch: 0,
-        last: 0,
-        undo: 0,
-        pending: 0,
-    }; 8];
-    let desk = Desk {
-        rows,
-        logged: 0,
-        stored: 0,
-    };
-    let marked = [false; 8];
-    Judged {
-        ok: true,
-        desk,
-        marked,
-    }
-}
-
 fn empty_slot(log: &[u8], m: usize, i: usize) -> bool
     requires { ⌜ (length (now log) ≡ 144 * m) × (m ≤ 16384) × (i < m) ⌝ }
     ensures { λ r. ⌜ r ≡ is-empty (read-slot (part (now (log .entry)) (144 * i) 144)) ⌝ }
@@ -193,9 +171,8 @@ pub fn judge_log(log: &[u8], m: usize, n: usize) -> Judged
     requires { ⌜ (length (now log) ≡ 144 * m) × (m ≤ 16384) ⌝ }
     ensures { λ r. ⌜ Judgement n (slots-of m (now (log .entry))) r ⌝ }
 {
-    let start = none_open();
-    let mut desk = start.desk;
-    let mut marked = start.marked;
+    let mut desk = idle_desk(0);
+    let mut marked = [false; 8];
     let mut i = 0;
     while i < m {
         let t = update_at(log, m, n, i);

@@ -1,13 +1,15 @@
 -- What depends on a page's kind, by the kind's number: 0 to 2 have entries, 3 has marks.
 use mathlib.Core.Path.{_≡_, refl, ap, sym, _∙_}
 use Prim.Native.Nat.{ℕ, zero, suc, _+_, _*_, _/_, _%_, _<_, _≤_}
+use native.Mathlib.Decide.{decLt}
 use native.Mathlib.Omega.{arith}
 use mathlib.Core.Bool.{Bool, true, false}
 use mathlib.Core.List.{List, [], _∷_}
-use lib.Dec.{lit<}
+use lib.Dec.{eqb, lit<}
+use Rattle.base.specs.Tests.{neq-false}
 use Rattle.layout.specs.declared.Entry.{Entry}
 use Rattle.layout.specs.Numbers.{be32, tab, read-entry, entries-bytes}
-use Rattle.layout.specs.Pages.{Page, PageKind, free, leaf, index, storage-map, page-kind, page-kind-number, map-bits}
+use Rattle.layout.specs.Pages.{Page, PageKind, free, leaf, index, storage-map, page-kind, page-kind-number, kind-is, map-bits}
 use Rattle.layout.specs.PageBytes.{read-entries, read-marks, read-mark, page-body, marks-bytes}
 use Rattle.entries.specs.EntryBytes.{used}
 use Rattle.page.specs.Typed.{used-entries, used-marks, map-mark}
@@ -43,6 +45,17 @@ kind-map (suc (suc (suc q))) h = refl
 pub number-map : (q : ℕ) → 3 ≤ q → page-kind-number (page-kind q) ≡ 3
 unfolding page-kind-number
 number-map q h = ap page-kind-number (kind-map q h)
+
+-- The program asks for a kind by its number.
+pub kind-tested : (q k : ℕ) → k < 3 → eqb q k ≡ kind-is (page-kind q) (page-kind k)
+unfolding kind-is
+kind-tested q k h =
+    elim (decLt q 3) [
+      | yes l ↦ sym (rw (number-node q l, number-node k h))
+      | no l ↦
+          neq-false (λ (e : q ≡ k). omega arith)
+          ∙ sym (rw (number-map q (omega arith), number-node k h) (neq-false (λ (e : 3 ≡ k). omega arith)))
+    ]
 
 module _ (b : List ℕ) where
   pub read-entries-node : (q : ℕ) → q < 3 → read-entries (page-kind q) b ≡ tab (be32 b 0 / 4194304 % 16) (read-entry b 16)

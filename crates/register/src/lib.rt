@@ -4,12 +4,12 @@ use call::delete_in;
 use call::fetch_in;
 use call::insert_in;
 use call::next_in;
+use desk::idle_desk;
 use ends::abort_in;
 use ends::commit_in;
 use ends::write_out_in;
 use format::format as formatted;
 use layout::Desk;
-use layout::Row;
 use lend::lengths_ok;
 use model::Answer;
 use model::Refusal;
@@ -21,7 +21,6 @@ use sound::standing_of;
 ghost use mathlib.Core.Path.{_≡_};
 ghost use Prim.Native.Nat.{ℕ};
 ghost use lib.ListN.{length};
-ghost use Rattle.layout.specs.Desks.{empty-desk};
 ghost use Rattle.model.specs.OnBytes as calls;
 ghost use Rattle.lend.specs.Lent.{lent};
 ghost use Rattle.replies.specs.Replies.{Replies};
@@ -218,22 +217,6 @@ pub fn write_out_within(
     write_out_in(wp, sp, wl, sl, e.pages, e.slots, d, p, budget)
 }
 
-fn empty_desk() -> Desk
-    ensures { λ d. ⌜ d ≡ empty-desk ⌝ }
-{
-    let rows = [Row {
-        batch: 0,
-        last: 0,
-        undo: 0,
-        pending: 0,
-    }; 8];
-    Desk {
-        rows,
-        logged: 0,
-        stored: 0,
-    }
-}
-
 // "Format empties all four areas to a map and an empty root leaf": as many stores as the budget has.
 pub fn format_within(
     wp: &mut [u8],
@@ -245,7 +228,7 @@ pub fn format_within(
 ) -> Reply
     ensures { λ r. ⌜ Replies calls.format (lent (now (wp .entry)) (now (sp .entry)) (now (wl .entry)) (now (sl .entry))) d budget r (lent (now (wp .exit)) (now (sp .exit)) (now (wl .exit)) (now (sl .exit))) ⌝ }
 {
-    let desk = empty_desk();
+    let desk = idle_desk(0);
     if !lengths_ok(wp, sp, wl, sl) {
         return refused(Refusal::Lengths, desk);
     }

@@ -3,10 +3,10 @@ use bytes::copy;
 use bytes::zero;
 use checks::layouts_ok;
 use checks::numbers_ok;
+use desk::idle_desk;
 use desk::used_rows;
 use judge::judge_log;
 use layout::Desk;
-use layout::Row;
 use lend::lengths_ok;
 use model::Answer;
 use model::Refusal;
@@ -21,8 +21,8 @@ use walk::tree_ok;
 ghost use mathlib.Core.Path.{_≡_};
 ghost use mathlib.Core.Bool.{false};
 ghost use Prim.Native.Nat.{_*_, _≤_};
-ghost use lib.ListN.{length, replicate};
-ghost use Rattle.layout.specs.Desks.{empty-desk, no-row};
+ghost use lib.ListN.{length};
+ghost use Rattle.layout.specs.Desks.{empty-desk};
 ghost use Rattle.layout.specs.Numbers.{zeros};
 ghost use Rattle.model.specs.OnBytes as calls;
 ghost use Rattle.model.specs.declared.Answer.the-variants.{Refused};
@@ -40,23 +40,6 @@ pub struct Verdict {
     pub desk: Desk,
     pub marked: [bool; 8],
     pub count: u32,
-}
-
-// The desk of a register in which no batch is open, and all of whose records are stored.
-fn idle_desk(logged: u32) -> Desk
-    ensures { λ d. ⌜ d ≡ record { rows = replicate 8 no-row; logged = logged; stored = logged } ⌝ }
-{
-    let rows = [Row {
-        batch: 0,
-        last: 0,
-        undo: 0,
-        pending: 0,
-    }; 8];
-    Desk {
-        rows,
-        logged,
-        stored: logged,
-    }
 }
 
 fn image_bad(why: Refusal) -> Verdict

@@ -41,7 +41,8 @@ use Rattle.checks.specs.Stored.{stored-is}
 use Rattle.checks.specs.Reserves.{reserves-by, reserves-are}
 use Rattle.sound.specs.declared.Standing.{Standing}
 use Rattle.sound.specs.Logs.{log-shown, area-is, area-fits, area-holds-log, holds-first}
-use Rattle.sound.specs.Rows.{desk-is-it, rows-counted}
+use Rattle.desk.specs.Same.{desk-same}
+use Rattle.sound.specs.Rows.{rows-counted}
 use Rattle.sound.specs.Parts.{parts-of, pages-read, sound-is, without-layouts, without-log, without-numbers, without-tree, without-desk, without-stored, without-reserves, without-pending, all-nine}
 use Rattle.sound.specs.Reserved.{Reserved}
 use Rattle.sound.specs.Standing.{pages-in, log-in, Known, Stands, stands-not}
@@ -116,7 +117,7 @@ module _ (n m : ℕ) (wp wl sl : List ℕ) (d : Desk) (of-pages : length wp ≡ 
 
     module _ {u : Bool} (eu : u ≡ same-desk d (desk-with (j .desk .rows) (j .desk .logged) (d .stored))) (same : u ≡ true) where
       desk-is : d ≡ desk-of (records-of (slots-of m wl)) (d .stored)
-      desk-is = desk-is-it d (desk-of (records-of (slots-of m wl)) (d .stored)) (desk-as eu ∙ same)
+      desk-is = desk-same d (desk-of (records-of (slots-of m wl)) (d .stored)) (desk-as eu ∙ same)
 
       rows-are : d .rows ≡ eight-rows (map row-of (open-batches (records-of (slots-of m wl))))
       unfolding desk-of

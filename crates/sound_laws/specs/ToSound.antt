@@ -26,7 +26,7 @@ use Rattle.page_laws.specs.Layout.{Laid}
 use Rattle.page_laws.specs.Restartable.{laid-blocks, empty-slots}
 use Rattle.ledger_laws.specs.PendingRule.{settles-pending}
 use Rattle.history_laws.specs.Core.{Core, RowsOk, NamesOk}
-use Rattle.desk_laws.specs.Same.{desk-self}
+use Rattle.desk.specs.Same.{desk-self}
 use Rattle.area_laws.specs.Typed.{pages-back, log-back, log-area-length}
 use Rattle.history_laws.specs.Redoing.{numbers-true}
 

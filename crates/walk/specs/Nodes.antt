@@ -3,7 +3,6 @@ use mathlib.Core.Path.{_≡_, refl, sym, ap, _∙_}
 use mathlib.Core.Logic.{_≢_}
 use Prim.Native.Nat.{ℕ, suc, _+_, _-_, _<_, _≤_}
 use native.Mathlib.Numerals.{add-one}
-use native.Mathlib.Decide.{decLt}
 use native.Mathlib.Omega.{arith}
 use mathlib.Core.Bool.{Bool, true, false, _&&_}
 use mathlib.Core.List.{List, [], _∷_, _++_}
@@ -19,7 +18,7 @@ use Rattle.entries.specs.EntryBytes.{used}
 use Rattle.entries.specs.Turns.{used-cons, used-rest-none}
 use Rattle.page.specs.declared.Page as program
 use Rattle.page.specs.Typed.{typed, map-mark}
-use Rattle.page.specs.Kinds.{number-node, number-map, used-entries-map, used-marks-node}
+use Rattle.page.specs.Kinds.{kind-tested, used-entries-map, used-marks-node}
 use Rattle.page.specs.Shown.{typed-marks}
 use Rattle.map.specs.Turns.{marks}
 use Rattle.model.specs.Fit.{after}
@@ -30,24 +29,14 @@ use Rattle.walk.specs.Rules.{no-map, map-unmarked, map-marked}
 
 -- ---- the kind of a level
 
-kind-by : (q k : ℕ) → k < 3 → eqb q k ≡ kind-is (page-kind q) (page-kind k)
-unfolding kind-is
-kind-by q k h =
-    elim (decLt q 3) [
-      | yes l ↦ sym (rw (number-node q l, number-node k h))
-      | no l ↦
-          neq-false (λ (e : q ≡ k). omega arith)
-          ∙ sym (rw (number-map q (omega arith), number-node k h) (neq-false (λ (e : 3 ≡ k). omega arith)))
-    ]
-
 module _ (x : program.Page) (l : ℕ) where
   pub leaf-kind : l ≡ 0 → eqb (x .kind) 1 ≡ kind-is (typed x .kind) (kind-at l)
   unfolding typed page-kind
-  leaf-kind e = rw e (kind-by (x .kind) 1 (omega arith))
+  leaf-kind e = rw e (kind-tested (x .kind) 1 (omega arith))
 
   pub index-kind : l ≢ 0 → eqb (x .kind) 2 ≡ kind-is (typed x .kind) (kind-at l)
   unfolding typed page-kind
-  index-kind n = rw (neq-false n) (kind-by (x .kind) 2 (omega arith))
+  index-kind n = rw (neq-false n) (kind-tested (x .kind) 2 (omega arith))
 
 -- ---- a page that the walk may reach
 

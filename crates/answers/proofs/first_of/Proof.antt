@@ -2,8 +2,6 @@
 use borrow.Author.Needs.{needs}
 use Rattle.answers.proofs.first_of.Statement.{statement}
 use Rattle.answers.proofs.first_of.Tie as tie
-use Rattle.answers.proofs.first_of.Reads as reads
-use Rattle.answers.proofs.first_of.Lts as lts
 use Rattle.model.specs.Answers.{answer-numbers}
 
 enum-told : tie.Need-enum-told

@@ -2,9 +2,6 @@
 use borrow.Author.Needs.{needs}
 use Rattle.answers.proofs.reason_of.Statement.{statement}
 use Rattle.answers.proofs.reason_of.Tie as tie
-use Rattle.answers.proofs.reason_of.Reads as reads
-use Rattle.answers.proofs.reason_of.Lts as lts
-use Rattle.answers.proofs.refusal_number.Reads as refusal-number-reads
 use mathlib.Core.Path.{_≡_, sym, ap, _∙_}
 use Rattle.model.specs.declared.Answer.{Answer}
 use Rattle.model.specs.Answers.{answer-numbers}

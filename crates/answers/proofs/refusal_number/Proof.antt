@@ -2,8 +2,6 @@
 use borrow.Author.Needs.{needs}
 use Rattle.answers.proofs.refusal_number.Statement.{statement}
 use Rattle.answers.proofs.refusal_number.Tie as tie
-use Rattle.answers.proofs.refusal_number.Reads as reads
-use Rattle.answers.proofs.refusal_number.Lts as lts
 use Rattle.model.specs.Answers.{refusal-number}
 
 enum-told : tie.Need-enum-told

@@ -2,11 +2,6 @@
 use borrow.Author.Needs.{needs}
 use Rattle.capi.proofs.donzhikar_abort.Statement.{statement}
 use Rattle.capi.proofs.donzhikar_abort.Tie as tie
-use Rattle.capi.proofs.donzhikar_abort.Reads as reads
-use Rattle.capi.proofs.donzhikar_abort.Lts as lts
-use Rattle.capi.proofs.give.Reads as give-reads
-use Rattle.desk.proofs.get_desk.Reads as get-desk-reads
-use Rattle.register.proofs.abort.Reads as abort-reads
 use Rattle.model.specs.OnBytes.{abort}
 use Rattle.lend.specs.Lent.{lent}
 use Rattle.capi.specs.Returned.{wrong-desk, wrong-values, replied}

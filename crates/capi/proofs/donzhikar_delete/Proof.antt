@@ -2,11 +2,6 @@
 use borrow.Author.Needs.{needs}
 use Rattle.capi.proofs.donzhikar_delete.Statement.{statement}
 use Rattle.capi.proofs.donzhikar_delete.Tie as tie
-use Rattle.capi.proofs.donzhikar_delete.Reads as reads
-use Rattle.capi.proofs.donzhikar_delete.Lts as lts
-use Rattle.capi.proofs.give.Reads as give-reads
-use Rattle.desk.proofs.get_desk.Reads as get-desk-reads
-use Rattle.register.proofs.delete.Reads as delete-reads
 use Rattle.model.specs.OnBytes.{delete}
 use Rattle.lend.specs.Lent.{lent}
 use Rattle.capi.specs.Returned.{wrong-desk, wrong-values, replied}

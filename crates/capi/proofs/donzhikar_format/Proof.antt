@@ -2,11 +2,6 @@
 use borrow.Author.Needs.{needs}
 use Rattle.capi.proofs.donzhikar_format.Statement.{statement}
 use Rattle.capi.proofs.donzhikar_format.Tie as tie
-use Rattle.capi.proofs.donzhikar_format.Reads as reads
-use Rattle.capi.proofs.donzhikar_format.Lts as lts
-use Rattle.capi.proofs.give.Reads as give-reads
-use Rattle.desk.proofs.get_desk.Reads as get-desk-reads
-use Rattle.register.proofs.format.Reads as format-reads
 use Rattle.model.specs.OnBytes.{format}
 use Rattle.lend.specs.Lent.{lent}
 use Rattle.capi.specs.Returned.{wrong-desk, wrong-values, replied}

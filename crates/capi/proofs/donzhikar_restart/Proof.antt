@@ -2,11 +2,6 @@
 use borrow.Author.Needs.{needs}
 use Rattle.capi.proofs.donzhikar_restart.Statement.{statement}
 use Rattle.capi.proofs.donzhikar_restart.Tie as tie
-use Rattle.capi.proofs.donzhikar_restart.Reads as reads
-use Rattle.capi.proofs.donzhikar_restart.Lts as lts
-use Rattle.capi.proofs.give.Reads as give-reads
-use Rattle.desk.proofs.get_desk.Reads as get-desk-reads
-use Rattle.register.proofs.restart.Reads as restart-reads
 use Rattle.model.specs.OnBytes.{restart}
 use Rattle.lend.specs.Lent.{lent}
 use Rattle.capi.specs.Returned.{wrong-desk, wrong-values, replied}

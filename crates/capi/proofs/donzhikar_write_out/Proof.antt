@@ -2,11 +2,6 @@
 use borrow.Author.Needs.{needs}
 use Rattle.capi.proofs.donzhikar_write_out.Statement.{statement}
 use Rattle.capi.proofs.donzhikar_write_out.Tie as tie
-use Rattle.capi.proofs.donzhikar_write_out.Reads as reads
-use Rattle.capi.proofs.donzhikar_write_out.Lts as lts
-use Rattle.capi.proofs.give.Reads as give-reads
-use Rattle.desk.proofs.get_desk.Reads as get-desk-reads
-use Rattle.register.proofs.write_out.Reads as write-out-reads
 use Rattle.model.specs.OnBytes.{write-out}
 use Rattle.lend.specs.Lent.{lent}
 use Rattle.capi.specs.Returned.{wrong-desk, wrong-values, replied}

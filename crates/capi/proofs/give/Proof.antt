@@ -2,13 +2,6 @@
 use borrow.Author.Needs.{needs}
 use Rattle.capi.proofs.give.Statement.{statement}
 use Rattle.capi.proofs.give.Tie as tie
-use Rattle.capi.proofs.give.Reads as reads
-use Rattle.capi.proofs.give.Lts as lts
-use Rattle.answers.proofs.first_of.Reads as first-of-reads
-use Rattle.answers.proofs.reason_of.Reads as reason-of-reads
-use Rattle.answers.proofs.second_of.Reads as second-of-reads
-use Rattle.bytes.proofs.set32.Reads as set32-reads
-use Rattle.desk.proofs.put_desk.Reads as put-desk-reads
 use Rattle.capi.specs.Returned.{values-written}
 
 put-desk-requires : tie.Need-put-desk-requires

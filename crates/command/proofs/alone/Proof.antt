@@ -1,8 +1,6 @@
 -- `alone`: letter by letter.
 use Rattle.command.proofs.alone.Statement.{statement}
 use Rattle.command.proofs.alone.Tie as tie
-use Rattle.command.proofs.alone.Reads as reads
-use Rattle.command.proofs.alone.Lts as lts
 use mathlib.Core.Path.{_≡_, refl, ap, sym, _∙_}
 use native.Mathlib.Omega.{arith}
 use Rattle.base.specs.Tests.{eq-true, neq-false, lt-true, lt-false, le-true, le-false}

@@ -2,13 +2,6 @@
 use borrow.Author.Needs.{needs}
 use Rattle.command.proofs.command_of.Statement.{statement}
 use Rattle.command.proofs.command_of.Tie as tie
-use Rattle.command.proofs.command_of.Reads as reads
-use Rattle.command.proofs.command_of.Lts as lts
-use Rattle.command.proofs.alone.Reads as alone-reads
-use Rattle.command.proofs.whole.Reads as whole-reads
-use Rattle.command.proofs.with_one.Reads as with-one-reads
-use Rattle.command.proofs.with_three.Reads as with-three-reads
-use Rattle.command.proofs.with_two.Reads as with-two-reads
 use mathlib.Core.Path.{_≡_, refl, ap, sym, _∙_}
 use native.Mathlib.Omega.{arith}
 use Rattle.base.specs.Tests.{eq-true, neq-false, lt-true, lt-false, le-true, le-false}

@@ -1,8 +1,6 @@
 -- `digit_of`: by the two bounds.
 use Rattle.command.proofs.digit_of.Statement.{statement}
 use Rattle.command.proofs.digit_of.Tie as tie
-use Rattle.command.proofs.digit_of.Reads as reads
-use Rattle.command.proofs.digit_of.Lts as lts
 use mathlib.Core.Path.{_≡_, refl, ap, sym, _∙_}
 use native.Mathlib.Omega.{arith}
 use Rattle.base.specs.Tests.{eq-true, neq-false, lt-true, lt-false, le-true, le-false}

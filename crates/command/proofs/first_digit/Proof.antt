@@ -2,9 +2,6 @@
 use borrow.Author.Needs.{needs}
 use Rattle.command.proofs.first_digit.Statement.{statement}
 use Rattle.command.proofs.first_digit.Tie as tie
-use Rattle.command.proofs.first_digit.Reads as reads
-use Rattle.command.proofs.first_digit.Lts as lts
-use Rattle.command.proofs.no_command.Reads as no-command-reads
 use mathlib.Core.Path.{_≡_, refl, ap, sym, _∙_}
 use native.Mathlib.Omega.{arith}
 use Rattle.base.specs.Tests.{eq-true, neq-false, lt-true, lt-false, le-true, le-false}

@@ -2,10 +2,6 @@
 use borrow.Author.Needs.{needs}
 use Rattle.command.proofs.space_step.Statement.{statement}
 use Rattle.command.proofs.space_step.Tie as tie
-use Rattle.command.proofs.space_step.Reads as reads
-use Rattle.command.proofs.space_step.Lts as lts
-use Rattle.command.proofs.no_command.Reads as no-command-reads
-use Rattle.command.proofs.spaced.Reads as spaced-reads
 use mathlib.Core.Path.{_≡_, refl, ap, sym, _∙_}
 use native.Mathlib.Omega.{arith}
 use Rattle.base.specs.Tests.{eq-true, neq-false, lt-true, lt-false, le-true, le-false}

@@ -2,13 +2,6 @@
 use borrow.Author.Needs.{needs}
 use Rattle.command.proofs.step.Statement.{statement}
 use Rattle.command.proofs.step.Tie as tie
-use Rattle.command.proofs.step.Reads as reads
-use Rattle.command.proofs.step.Lts as lts
-use Rattle.command.proofs.digit_of.Reads as digit-of-reads
-use Rattle.command.proofs.digit_step.Reads as digit-step-reads
-use Rattle.command.proofs.letter_step.Reads as letter-step-reads
-use Rattle.command.proofs.no_command.Reads as no-command-reads
-use Rattle.command.proofs.space_step.Reads as space-step-reads
 use mathlib.Core.Path.{_≡_, refl, ap, sym, _∙_}
 use native.Mathlib.Omega.{arith}
 use Rattle.base.specs.Tests.{eq-true, neq-false, lt-true, lt-false, le-true, le-false}

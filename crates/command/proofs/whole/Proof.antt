@@ -1,8 +1,6 @@
 -- `whole`: by the place.
 use Rattle.command.proofs.whole.Statement.{statement}
 use Rattle.command.proofs.whole.Tie as tie
-use Rattle.command.proofs.whole.Reads as reads
-use Rattle.command.proofs.whole.Lts as lts
 use mathlib.Core.Path.{_≡_, refl, ap, sym, _∙_}
 use native.Mathlib.Omega.{arith}
 use Rattle.base.specs.Tests.{eq-true, neq-false, lt-true, lt-false, le-true, le-false}

@@ -1,8 +1,6 @@
 -- `with_one`: letter by letter.
 use Rattle.command.proofs.with_one.Statement.{statement}
 use Rattle.command.proofs.with_one.Tie as tie
-use Rattle.command.proofs.with_one.Reads as reads
-use Rattle.command.proofs.with_one.Lts as lts
 use mathlib.Core.Path.{_≡_, refl, ap, sym, _∙_}
 use native.Mathlib.Omega.{arith}
 use Rattle.base.specs.Tests.{eq-true, neq-false, lt-true, lt-false, le-true, le-false}

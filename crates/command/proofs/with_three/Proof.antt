@@ -1,8 +1,6 @@
 -- `with_three`: one letter.
 use Rattle.command.proofs.with_three.Statement.{statement}
 use Rattle.command.proofs.with_three.Tie as tie
-use Rattle.command.proofs.with_three.Reads as reads
-use Rattle.command.proofs.with_three.Lts as lts
 use mathlib.Core.Path.{_≡_, refl, ap, sym, _∙_}
 use native.Mathlib.Omega.{arith}
 use Rattle.base.specs.Tests.{eq-true, neq-false, lt-true, lt-false, le-true, le-false}

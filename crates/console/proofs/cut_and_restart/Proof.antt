@@ -2,11 +2,6 @@
 use borrow.Author.Needs.{needs}
 use Rattle.console.proofs.cut_and_restart.Statement.{statement}
 use Rattle.console.proofs.cut_and_restart.Tie as tie
-use Rattle.console.proofs.cut_and_restart.Reads as reads
-use Rattle.console.proofs.cut_and_restart.Lts as lts
-use Rattle.bytes.proofs.zero.Reads as zero-reads
-use Rattle.console.proofs.no_desk.Reads as no-desk-reads
-use Rattle.register.proofs.restart.Reads as restart-reads
 use Rattle.lend.specs.Lent.{lent}
 use Rattle.console.specs.Obeyed.{obeyed-as, restarted}
 
@@ -16,8 +11,8 @@ zero-requires c κs = search needs
 zero-requires-2 : tie.Need-zero-requires-2
 zero-requires-2 c κs = search needs
 
-no-desk-requires : tie.Need-no-desk-requires
-no-desk-requires c κs = search needs
+idle-desk-requires : tie.Need-idle-desk-requires
+idle-desk-requires c κs = search needs
 
 restart-requires : tie.Need-restart-requires
 restart-requires c κs = search needs
@@ -37,7 +32,7 @@ same-length-4 c = search needs
 returns : tie.Need-returns
 returns c =
     let a = c .before .before .before .before .before .before .before .before .before .before .before .before .before .before .before .before .before .before .before .before .before .before .before .before .args in
-    restarted (a .wp .now) (a .wl .now) (a .sp .now) (a .sl .now) _ _ _ _ _ (c .before .before .before .before .before .before .before .before .before .before .before .before .before .before .before .before .before .before .zero .ensures) (c .before .before .before .before .before .before .before .before .before .before .before .before .before .before .zero2 .ensures) (c .before .before .before .before .before .before .before .no-desk .ensures) (c .before .before .before .before .before .before .restart .ensures)
+    restarted (a .wp .now) (a .wl .now) (a .sp .now) (a .sl .now) _ _ _ _ _ (c .before .before .before .before .before .before .before .before .before .before .before .before .before .before .before .before .before .before .zero .ensures) (c .before .before .before .before .before .before .before .before .before .before .before .before .before .before .zero2 .ensures) (c .before .before .before .before .before .before .before .idle-desk .ensures) (c .before .before .before .before .before .before .restart .ensures)
 
 pub cut-and-restart-spec : {M : Type 1} → statement M
 cut-and-restart-spec =
@@ -45,7 +40,7 @@ cut-and-restart-spec =
     (tie.spec
     zero-requires
     zero-requires-2
-    no-desk-requires
+    idle-desk-requires
     restart-requires
     same-length
     same-length-2

@@ -1,9 +1,6 @@
 -- `hear_all` ends with its count of turns, and keeps the lengths.
 use Rattle.console.proofs.hear_all.Statement.{statement}
 use Rattle.console.proofs.hear_all.Tie as tie
-use Rattle.console.proofs.hear_all.Reads as reads
-use Rattle.console.proofs.hear_all.Lts as lts
-use Rattle.console.proofs.hear_some.Reads as hear-some-reads
 use borrow.Author.Needs.{needs}
 use mathlib.Core.Path.{_≡_, refl}
 use native.Mathlib.Omega.{arith}

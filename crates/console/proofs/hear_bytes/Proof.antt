@@ -1,9 +1,6 @@
 -- `hear_bytes` ends, and keeps the lengths.
 use Rattle.console.proofs.hear_bytes.Statement.{statement}
 use Rattle.console.proofs.hear_bytes.Tie as tie
-use Rattle.console.proofs.hear_bytes.Reads as reads
-use Rattle.console.proofs.hear_bytes.Lts as lts
-use Rattle.console.proofs.hear_byte.Reads as hear-byte-reads
 use borrow.Author.Needs.{needs}
 use Prim.Native.Nat.{_-_, _≤_}
 use mathlib.Core.Path.{_≡_, refl}

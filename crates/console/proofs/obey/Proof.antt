@@ -2,17 +2,6 @@
 use borrow.Author.Needs.{needs}
 use Rattle.console.proofs.obey.Statement.{statement}
 use Rattle.console.proofs.obey.Tie as tie
-use Rattle.console.proofs.obey.Reads as reads
-use Rattle.console.proofs.obey.Lts as lts
-use Rattle.console.proofs.cut_and_restart.Reads as cut-and-restart-reads
-use Rattle.register.proofs.abort.Reads as abort-reads
-use Rattle.register.proofs.begin.Reads as begin-reads
-use Rattle.register.proofs.commit.Reads as commit-reads
-use Rattle.register.proofs.delete.Reads as delete-reads
-use Rattle.register.proofs.fetch.Reads as fetch-reads
-use Rattle.register.proofs.insert.Reads as insert-reads
-use Rattle.register.proofs.next.Reads as next-reads
-use Rattle.register.proofs.write_out.Reads as write-out-reads
 use Rattle.lend.specs.Lent.{lent}
 use Rattle.console.specs.Obeyed.{obeyed-as, restarted}
 use mathlib.Core.Path.{refl}

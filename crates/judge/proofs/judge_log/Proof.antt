@@ -4,9 +4,10 @@ use Rattle.judge.proofs.judge_log.Tie as tie
 use borrow.Author.Needs.{needs}
 use native.Mathlib.Omega.{arith}
 use Prim.Native.Nat.{_≤_, _-_}
-use mathlib.Core.Path.{sym, refl, _∙_}
+use mathlib.Core.Path.{ap, sym, refl, _∙_}
 use borrow.Author.Tests.{not-true, not-false}
-use Rattle.chain.specs.Shown.{right-with, shows-as}
+use Rattle.layout.specs.declared.Desk.{Desk}
+use Rattle.chain.specs.Shown.{right-with, shows-none}
 use Rattle.judge.specs.Updates.{update-full}
 use Rattle.judge.specs.Turns.{update-halts, update-goes}
 use Rattle.judge.specs.Judging.{Going, going-start, going-shown, going-by, going-low, going-on, going-off, ends-empty, ends-all}
@@ -17,13 +18,13 @@ Inv-loop log m n desk₀ marked₀ i₀ desk marked i = (i ≤ m) × Going n m l
 abbrev μ-loop : tie.MeasureT-loop
 μ-loop log m n desk₀ marked₀ i₀ desk marked i = m - i
 
-none-open-requires : tie.Need-none-open-requires Inv-loop μ-loop
-none-open-requires c κs = search needs
+idle-desk-requires : tie.Need-idle-desk-requires Inv-loop μ-loop
+idle-desk-requires c κs = search needs
 
 loop-holds : tie.Need-loop-holds Inv-loop μ-loop
 loop-holds c =
-    let a = c .before .before .before .before .args in
-    (search needs, going-shown (a .n) (a .m) (a .log .now) _ _ (going-start (a .n) (a .m) (a .log .now) _ (c .before .before .none-open .ensures)))
+    let a = c .before .before .args in
+    (search needs, going-start (a .n) (a .m) (a .log .now) _ (shows-none _ (ap (λ (d : Desk). d .rows) (c .idle-desk .ensures)) refl))
 
 update-at-requires : tie.Need-update-at-requires Inv-loop μ-loop
 update-at-requires c κs = search needs
@@ -39,7 +40,7 @@ refused-requires c κs = search needs
 
 returns : tie.Need-returns Inv-loop μ-loop
 returns c =
-    let a = c .before .before .before .before .before .before .before .before .before .before .before .before .before .args in
+    let a = c .before .before .before .before .before .before .before .before .before .before .before .args in
     let l = c .before .before .before .before .before .before .before .before .loop in
     let u = c .before .before .before .before .before .before .update-at .ensures (c .before .before .before .before .if1 .taken) in
     going-off (a .n) (a .m) (a .log .now) (l .i) (right-with (l .desk) (l .marked)) (l .inv .1) (c .before .before .before .before .before .before .before .loop-test .taken) _ (update-full _ _ _ (u .holds))
@@ -60,9 +61,9 @@ element-copy-out-t23 c = search needs
 
 add-t24 : tie.Need-add-t24 Inv-loop μ-loop
 add-t24 c =
-    let a = c .before .before .before .before .before .before .before .before .before .before .before .args in
+    let a = c .before .before .before .before .before .before .before .before .before .args in
     let l = c .before .before .before .before .before .before .loop in
-    omega (arith, going-low (a .n) (a .m) (a .log .now) (l .i) (right-with (l .desk) (l .marked)) (c .before .before .before .before .before .before .before .before .before .before .before .pre .1) (l .inv .1) (c .before .going-on .result))
+    omega (arith, going-low (a .n) (a .m) (a .log .now) (l .i) (right-with (l .desk) (l .marked)) (c .before .before .before .before .before .before .before .before .before .pre .1) (l .inv .1) (c .before .going-on .result))
 
 mul-t26 : tie.Need-mul-t26 Inv-loop μ-loop
 mul-t26 c = search needs
@@ -78,7 +79,7 @@ loop-less c = search needs
 
 loop-again : tie.Need-loop-again Inv-loop μ-loop
 loop-again c =
-    let a = c .before .before .before .before .before .before .before .before .before .before .before .args in
+    let a = c .before .before .before .before .before .before .before .before .before .args in
     let l = c .before .before .before .before .before .before .loop in
     let u = c .before .before .before .before .update-at .ensures (c .before .before .if1 .taken) in (
       search needs,
@@ -97,7 +98,7 @@ finished-requires c κs = search needs
 
 returns-2 : tie.Need-returns-2 Inv-loop μ-loop
 returns-2 c =
-    let a = c .before .before .before .before .before .before .before .before .before .before .before .before .before .args in
+    let a = c .before .before .before .before .before .before .before .before .before .before .before .args in
     let l = c .before .before .before .before .before .before .before .before .loop in
     let f = c .finished .ensures in
     ends-empty (a .n) (a .m) (a .log .now) (l .i) _ (going-by (a .n) (a .m) (a .log .now) (l .i) _ _ (c .before .shown2 .ensures) (l .inv .1)) _ (f .0) (f .1) (f .2) (c .before .before .before .before .before .before .before .loop-test .taken)
@@ -108,27 +109,27 @@ shown-requires-3 c κs = search needs
 
 judge-slot-requires : tie.Need-judge-slot-requires Inv-loop μ-loop
 judge-slot-requires c κs =
-    let a = c .before .before .before .before .before .before .before .before .before .before .before .before .args in
+    let a = c .before .before .before .before .before .before .before .before .before .before .args in
     let l = c .before .before .before .before .before .before .before .loop in
-    let q = c .before .before .before .before .before .before .before .before .before .before .before .before .pre in
+    let q = c .before .before .before .before .before .before .before .before .before .before .pre in
     (q .0, q .1, c .before .before .before .before .before .before .loop-test .taken, going-low (a .n) (a .m) (a .log .now) (l .i) _ (q .1) (going-by (a .n) (a .m) (a .log .now) (l .i) _ _ (c .shown3 .ensures) (l .inv .1)))
 
 returns-3 : tie.Need-returns-3 Inv-loop μ-loop
 returns-3 c =
-    let a = c .before .before .before .before .before .before .before .before .before .before .before .before .before .before .before .args in
+    let a = c .before .before .before .before .before .before .before .before .before .before .before .before .before .args in
     let l = c .before .before .before .before .before .before .before .before .before .before .loop in
     going-off (a .n) (a .m) (a .log .now) (l .i) _ (going-by (a .n) (a .m) (a .log .now) (l .i) _ _ (c .before .before .before .shown3 .ensures) (l .inv .1)) (c .before .before .before .before .before .before .before .before .before .loop-test .taken) _
     (sym (c .before .before .before .before .before .empty-slot .ensures) ∙ c .before .before .before .before .if3 .left) (c .before .before .judge-slot .ensures) (not-true _ (c .if4 .taken))
 
 add-i-2 : tie.Need-add-i-2 Inv-loop μ-loop
-add-i-2 c = omega (arith, c .before .before .before .before .before .before .before .before .before .before .before .loop-test .taken, c .before .before .before .before .before .before .before .before .before .before .before .before .before .before .before .before .before .pre .1)
+add-i-2 c = omega (arith, c .before .before .before .before .before .before .before .before .before .before .before .loop-test .taken, c .before .before .before .before .before .before .before .before .before .before .before .before .before .before .before .pre .1)
 
 loop-less-2 : tie.Need-loop-less-2 Inv-loop μ-loop
 loop-less-2 c = search needs
 
 loop-again-2 : tie.Need-loop-again-2 Inv-loop μ-loop
 loop-again-2 c =
-    let a = c .before .before .before .before .before .before .before .before .before .before .before .before .before .before .before .before .before .args in
+    let a = c .before .before .before .before .before .before .before .before .before .before .before .before .before .before .before .args in
     let l = c .before .before .before .before .before .before .before .before .before .before .before .before .loop in (
       search needs,
       going-shown (a .n) (a .m) (a .log .now) _ _
@@ -143,7 +144,7 @@ finished-requires-2 c κs = search needs
 
 returns-4 : tie.Need-returns-4 Inv-loop μ-loop
 returns-4 c =
-    let a = c .before .before .before .before .before .before .before .before .args in
+    let a = c .before .before .before .before .before .before .args in
     let l = c .before .before .before .loop in
     let f = c .finished2 .ensures in
     ends-all (a .n) (a .m) (a .log .now) (l .i) _ (going-by (a .n) (a .m) (a .log .now) (l .i) _ _ (c .before .shown4 .ensures) (l .inv .1)) _ (f .0) (f .1) (f .2) (c .before .before .loop-test .left)
@@ -154,7 +155,7 @@ judge-log-spec =
     (tie.spec
     Inv-loop
     μ-loop
-    none-open-requires
+    idle-desk-requires
     loop-holds
     update-at-requires
     going-on-requires

@@ -9,8 +9,8 @@ use Rattle.model.specs.OnBytes.{refused-desk}
 use Rattle.lend.specs.Lent.{lengths-numbers}
 use Rattle.register.specs.Refusals.{by-1, format-0}
 
-empty-desk-requires : tie.Need-empty-desk-requires
-empty-desk-requires c κs = search needs
+idle-desk-requires : tie.Need-idle-desk-requires
+idle-desk-requires c κs = search needs
 
 lengths-ok-requires : tie.Need-lengths-ok-requires
 lengths-ok-requires c κs = search needs
@@ -35,7 +35,7 @@ unfolding refused-desk
 returns c =
     let a = c .before .before .before .before .before .before .before .before .before .before .before .before .args in
     by-1 (a .wp .now) (a .sp .now) (a .wl .now) (a .sl .now) (a .d) (a .budget) _ calls.format (sym (c .before .before .lengths-ok .ensures) ∙ not-true _ (c .before .if1 .taken)) (c .refused .ensures .0)
-    (c .refused .ensures .1 ∙ c .before .before .before .before .before .before .before .empty-desk .ensures)
+    (c .refused .ensures .1 ∙ c .before .before .before .before .before .before .before .idle-desk .ensures)
 
 format-requires : tie.Need-format-requires
 format-requires c κs =
@@ -57,13 +57,13 @@ same-length-8 c = search needs
 returns-2 : tie.Need-returns-2
 returns-2 c =
     let a = c .before .before .before .before .before .before .before .before .before .before .before .before .before .before .before .before .before .before .before .before .before .before .before .before .args in
-    format-0 _ _ (a .d) (a .budget) _ (sym (c .before .before .before .before .before .before .before .before .before .before .before .before .before .before .lengths-ok .ensures) ∙ not-false _ (c .before .before .before .before .before .before .before .before .before .before .before .before .before .if1 .left)) (c .before .before .before .before .before .before .before .before .format .ensures) refl (c .before .before .before .before .before .before .before .before .before .before .before .before .before .before .before .before .before .before .before .empty-desk .ensures)
+    format-0 _ _ (a .d) (a .budget) _ (sym (c .before .before .before .before .before .before .before .before .before .before .before .before .before .before .lengths-ok .ensures) ∙ not-false _ (c .before .before .before .before .before .before .before .before .before .before .before .before .before .if1 .left)) (c .before .before .before .before .before .before .before .before .format .ensures) refl (c .before .before .before .before .before .before .before .before .before .before .before .before .before .before .before .before .before .before .before .idle-desk .ensures)
 
 pub format-within-spec : {M : Type 1} → statement M
 format-within-spec =
     tie.close
     (tie.spec
-    empty-desk-requires
+    idle-desk-requires
     lengths-ok-requires
     refused-requires
     same-length
