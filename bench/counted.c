@@ -1,6 +1,6 @@
 /* One call and one pass of each kind, for counting instructions.
  *
- *   counted stage IMAGE LETTER SCENE   stages the call on a full log, at full speed
+ *   counted stage IMAGE LETTER SCENE   stages the call on a full log, at full speed; P is a fetch with many updates pending, on any log
  *   counted run SCENE                  the passes and the call, each once: what is counted is chosen by its function's name
  */
 #include "pass.h"
@@ -12,9 +12,13 @@ static int stage_file(const char *image, char letter, const char *to)
 {
     static struct scene scene;
     load_scene(&scene, image);
-    stage(&scene, letter, FULL);
+    uint32_t pending = letter == 'C' || letter == 'R';
+    if (letter == 'P')
+        pending = stage_pending(&scene);
+    else
+        stage(&scene, letter, FULL);
     save_scene(&scene, to);
-    printf("%u\n", records(&scene));
+    printf("%u %u\n", records(&scene), pending);
     return 0;
 }
 

@@ -2,6 +2,8 @@
 #include "staging.h"
 #include "filling.h"
 
+enum { OPEN = 8 };
+
 const struct named_call calls[CALLS] = {
     { "begin", 'B' }, { "fetch", 'F' }, { "next", 'N' }, { "insert", 'I' }, { "delete", 'D' },
     { "commit", 'C' }, { "abort", 'A' }, { "write-out", 'W' }, { "restart", 'R' }, { "format", 'Z' },
@@ -33,6 +35,19 @@ void stage_restart(struct scene *scene)
     /* Another batch's commit stores the open one's records too. */
     must(scene, 'C', must(scene, 'B', 0, 0, 0), 0, 0);
     scene->next = (struct call){ 'R', { 0, 0, 0 } };
+}
+
+uint32_t stage_pending(struct scene *scene)
+{
+    uint32_t batches[OPEN], pending = 0;
+    for (int i = 0; i < OPEN; i++)
+        batches[i] = must(scene, 'B', 0, 0, 0);
+    scene->next = (struct call){ 'F', { batches[0], some_key(scene), 0 } };
+    while (make(&scene->in, (struct call){ 'I', { batches[pending % OPEN], no_key(scene), 7 } }) == 0) {
+        scene->newest++;
+        pending++;
+    }
+    return pending;
 }
 
 /* The numbers of a call that goes with `batch`. */
