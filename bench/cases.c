@@ -15,19 +15,21 @@ static const struct filer *const filers[] = {
 };
 enum { FILERS = sizeof filers / sizeof filers[0], IMAGES = 3 };
 
-static struct times times[FILERS];
+static struct scene scenes[IMAGES];
+static struct times times[IMAGES][FILERS];
 
-static void one_turn(void *opened[FILERS], const uint32_t keys[CASE_SLIDES])
+static void one_turn(void *opened[FILERS], const uint32_t keys[CASE_SLIDES], struct times to[FILERS])
 {
     for (int i = 0; i < FILERS; i++) {
         filers[i]->take_back(opened[i], keys);
         double start = now();
         filers[i]->file(opened[i], keys);
-        take(&times[i], now() - start);
+        take(&to[i], start, now());
     }
 }
 
-static void compare(const struct scene *scene, const char *folder, int quick)
+/* One round on the slides of one scene. The first case of each is not timed: it finds nothing in the caches. */
+static void one_round(const struct scene *scene, const char *folder, int quick, struct times to[FILERS])
 {
     void *opened[FILERS];
     uint32_t keys[CASE_SLIDES];
@@ -36,12 +38,12 @@ static void compare(const struct scene *scene, const char *folder, int quick)
     for (int i = 0; i < FILERS; i++) {
         opened[i] = filers[i]->open(scene, folder);
         filers[i]->file(opened[i], keys);
-        times[i].count = 0;
     }
     double began = now();
+    size_t repetitions = 0;
     do
-        one_turn(opened, keys);
-    while (!often_enough(&times[0], began, quick));
+        one_turn(opened, keys, to);
+    while (!round_over(++repetitions, began, quick));
     for (int i = 0; i < FILERS; i++)
         filers[i]->close(opened[i]);
 }
@@ -57,30 +59,28 @@ static void head(void)
     putchar('\n');
 }
 
-static void row(const struct scene *scene)
+static void print_row(const struct scene *scene, const struct times of[FILERS])
 {
     printf("| %u | %u | %u | %u |", pages(scene), slots(scene), records(scene), scene->newest - scene->oldest);
     for (int i = 0; i < FILERS; i++)
-        printf(" %.1f | %.1f |", least(&times[i]), median(&times[i]));
+        printf(" %.1f | %.1f |", least(&of[i]), median(&of[i]));
     putchar('\n');
-    fflush(stdout);
 }
 
 int main(int count, char **words)
 {
     static const char *const images[IMAGES] = { "empty", "half", "case" };
-    static struct scene scene;
     if (count < 3) {
         fputs("cases FOLDER PAGES [quick]\n", stderr);
         return 2;
     }
+    for (int i = 0; i < IMAGES; i++)
+        load_image(&scenes[i], words[1], words[2], images[i]);
+    for (int round = 0; round < ROUNDS; round++)
+        for (int i = 0; i < IMAGES; i++)
+            one_round(&scenes[i], words[1], count > 3, times[i]);
     head();
-    for (int i = 0; i < IMAGES; i++) {
-        char path[512];
-        snprintf(path, sizeof path, "%s/%s-%s", words[1], words[2], images[i]);
-        load_scene(&scene, path);
-        compare(&scene, words[1], count > 3);
-        row(&scene);
-    }
+    for (int i = 0; i < IMAGES; i++)
+        print_row(&scenes[i], times[i]);
     return 0;
 }

@@ -1,24 +1,39 @@
-/* The clock is the monotonic one; a time is wall time, so that of an undisturbed repetition. */
+/* The clock is the thread's processor time, so a thing that is interrupted is not taken for a slow one. To read it takes a good part of
+ * the shortest pass, so its own step is taken off: left in, it would make calls look like fewer passes. */
 #define _POSIX_C_SOURCE 199309L
 #include "clock.h"
 #include <stdlib.h>
 #include <string.h>
 #include <time.h>
 
-enum { FEWEST_TIMES = 25, QUICK_TIMES = 3 };
-static const double long_enough = 400000;
+enum { FEWEST_IN_ROUND = 15, STEPS_TRIED = 10000 };
+static const double long_enough = 250000;
 
 double now(void)
 {
     struct timespec at;
-    clock_gettime(CLOCK_MONOTONIC, &at);
+    clock_gettime(CLOCK_THREAD_CPUTIME_ID, &at);
     return (double)at.tv_sec * 1e6 + (double)at.tv_nsec / 1e3;
 }
 
-void take(struct times *times, double micros)
+/* The least time between two readings of the clock, looked for at the first asking. */
+static double step(void)
+{
+    static double found = 0;
+    static int tried = 0;
+    for (; tried < STEPS_TRIED; tried++) {
+        double from = now();
+        double taken = now() - from;
+        if (tried == 0 || taken < found)
+            found = taken;
+    }
+    return found;
+}
+
+void take(struct times *times, double from, double to)
 {
     if (times->count < MOST_TIMES)
-        times->micros[times->count++] = micros;
+        times->micros[times->count++] = to - from - step();
 }
 
 double least(const struct times *times)
@@ -44,9 +59,7 @@ double median(const struct times *times)
     return sorted[times->count / 2];
 }
 
-int often_enough(const struct times *times, double began, int quick)
+int round_over(size_t repetitions, double began, int quick)
 {
-    if (quick)
-        return times->count >= QUICK_TIMES;
-    return times->count == MOST_TIMES || (times->count >= FEWEST_TIMES && now() - began > long_enough);
+    return quick || repetitions == MOST_IN_ROUND || (repetitions >= FEWEST_IN_ROUND && now() - began > long_enough);
 }

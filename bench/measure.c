@@ -19,19 +19,19 @@ static void once(const struct scene *scene, struct scene *work, struct measured 
         fprintf(stderr, "%c at %u records is refused: %u\n", scene->next.letter, records(scene), reason);
         exit(1);
     }
-    take(&to->compare, compared - start);
-    take(&to->sum, summed - compared);
-    take(&to->call, called - summed);
+    take(&to->compare, start, compared);
+    take(&to->sum, compared, summed);
+    take(&to->call, summed, called);
 }
 
 void measure(const struct scene *scene, int quick, struct measured *to, uint32_t values[2])
 {
     static struct scene work;
     double began = now();
-    to->call.count = to->compare.count = to->sum.count = 0;
+    size_t repetitions = 0;
     do
         once(scene, &work, to);
-    while (!often_enough(&to->call, began, quick));
+    while (!round_over(++repetitions, began, quick));
     values[0] = donzhikar_value(work.in.values, 0);
     values[1] = donzhikar_value(work.in.values, 1);
 }

@@ -9,8 +9,8 @@ struct measured {
     struct times call, compare, sum;
 };
 
-/* Each repetition starts from the same bytes and goes through the pass before the call, so both find the same bytes in the caches.
- * Ends the program where the call is refused. `values` gets the answer's values. */
+/* One round, added to those before. Each repetition starts from the same bytes and makes the passes before the call, so all of them find
+ * the same bytes in the caches. Ends the program where the call is refused. `values` gets the answer's values. */
 void measure(const struct scene *scene, int quick, struct measured *to, uint32_t values[2]);
 
 /* The columns that both tables of calls end with: least and median time, the two passes, and how many passes the call takes. */

@@ -98,3 +98,10 @@ void load_scene(struct scene *scene, const char *path)
     scene->newest = head[3];
     scene->next = (struct call){ (char)head[4], { head[5], head[6], head[7] } };
 }
+
+void load_image(struct scene *scene, const char *folder, const char *page_count, const char *name)
+{
+    char path[512];
+    snprintf(path, sizeof path, "%s/%s-%s", folder, page_count, name);
+    load_scene(scene, path);
+}

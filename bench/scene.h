@@ -28,4 +28,7 @@ void copy_scene(struct scene *to, const struct scene *from);
 void save_scene(const struct scene *scene, const char *path);
 void load_scene(struct scene *scene, const char *path);
 
+/* A register that `images` made: its file is FOLDER/PAGES-NAME. */
+void load_image(struct scene *scene, const char *folder, const char *page_count, const char *name);
+
 #endif
