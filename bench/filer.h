@@ -1,0 +1,28 @@
+/* What files a case of ten slides: the register, and databases that do the same work. */
+#ifndef FILER_H
+#define FILER_H
+
+#include "scene.h"
+
+enum { CASE_SLIDES = 10 };
+
+struct filer {
+    const char *name;
+    /* Opens it with the slides that the scene holds. Files, if any, go into the folder. */
+    void *(*open)(const struct scene *scene, const char *folder);
+    /* Begins a case, files ten slides and commits: this is timed. */
+    void (*file)(void *opened, const uint32_t keys[CASE_SLIDES]);
+    /* Makes it as it was before the case. */
+    void (*take_back)(void *opened, const uint32_t keys[CASE_SLIDES]);
+    void (*close)(void *opened);
+};
+
+extern const struct filer register_filer;
+#ifdef WITH_SQLITE
+extern const struct filer sqlite_in_memory, sqlite_in_file;
+#endif
+#ifdef WITH_LMDB
+extern const struct filer lmdb_filer;
+#endif
+
+#endif

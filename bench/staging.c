@@ -1,0 +1,77 @@
+/* Staging: 01's reserves say how full a log may be for each call, see "What is short, exactly" in the header for C. */
+#include "staging.h"
+#include "filling.h"
+
+enum { OPEN = 8 };
+
+const struct named_call calls[CALLS] = {
+    { "begin", 'B' }, { "fetch", 'F' }, { "next", 'N' }, { "insert", 'I' }, { "delete", 'D' },
+    { "commit", 'C' }, { "abort", 'A' }, { "write-out", 'W' }, { "restart", 'R' }, { "format", 'Z' },
+};
+
+const char *const fill_names[FILLS] = { "empty", "half", "full" };
+
+/* A key that is filed, among the oldest and the newest a middle one. */
+static uint32_t some_key(const struct scene *scene)
+{
+    return key_of(scene->oldest + (scene->newest - scene->oldest) / 2);
+}
+
+static uint32_t no_key(const struct scene *scene)
+{
+    return key_of(scene->newest);
+}
+
+/* A slide filed by a batch that is still open. */
+static void file_one(struct scene *scene, uint32_t batch)
+{
+    must(scene, 'I', batch, no_key(scene), 7);
+    scene->newest++;
+}
+
+void stage_restart(struct scene *scene)
+{
+    file_one(scene, must(scene, 'B', 0, 0, 0));
+    /* Another batch's commit stores the open one's records too. */
+    must(scene, 'C', must(scene, 'B', 0, 0, 0), 0, 0);
+    scene->next = (struct call){ 'R', { 0, 0, 0 } };
+}
+
+uint32_t stage_pending(struct scene *scene)
+{
+    uint32_t batches[OPEN], pending = 0;
+    for (int i = 0; i < OPEN; i++)
+        batches[i] = must(scene, 'B', 0, 0, 0);
+    scene->next = (struct call){ 'F', { batches[0], some_key(scene), 0 } };
+    while (make(&scene->in, (struct call){ 'I', { batches[pending % OPEN], no_key(scene), 7 } }) == 0) {
+        scene->newest++;
+        pending++;
+    }
+    return pending;
+}
+
+/* The numbers of a call that goes with `batch`. */
+static struct call with_batch(const struct scene *scene, char letter, uint32_t batch)
+{
+    switch (letter) {
+    case 'N': return (struct call){ letter, { batch, some_key(scene) - 1, 0 } };
+    case 'I': return (struct call){ letter, { batch, no_key(scene), 7 } };
+    case 'W': return (struct call){ letter, { 1, 0, 0 } };
+    default: return (struct call){ letter, { batch, some_key(scene), 0 } };
+    }
+}
+
+void stage(struct scene *scene, char letter, enum fill fill)
+{
+    int updates = letter == 'I' || letter == 'D' || letter == 'C' || letter == 'A' || letter == 'R';
+    if (fill == FULL && !updates)
+        top_up(scene, slots(scene) - SPARE_FOR_BEGIN);
+    if (letter == 'R') {
+        stage_restart(scene);
+        return;
+    }
+    uint32_t batch = letter == 'B' ? 0 : must(scene, 'B', 0, 0, 0);
+    if (letter == 'C' || letter == 'A')
+        file_one(scene, batch);
+    scene->next = with_batch(scene, letter, batch);
+}
