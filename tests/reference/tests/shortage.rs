@@ -2,8 +2,8 @@
 //! The reserves keep a running register from such images, so these are written past them.
 
 use reference::calls::{call, sound, Answer, Call, Outcome};
-use reference::layout::{Areas, Desk, Kind, Pages, Record};
-use reference::log::{Log, OpenBatches, Work};
+use reference::layout::{Areas, Desk, Kind, Record};
+use reference::log::Work;
 use reference::sizes::{PAGE_BYTES, SLOT_BYTES};
 use reference::tree::{go_down, Purpose};
 use reference::Refusal;
@@ -22,11 +22,7 @@ fn begin(work: &mut Work) -> u32 {
 
 /// 16 pages, all used; the batch that is open has taken a slide out of a leaf that others have filled again.
 fn full_register() -> Work {
-    let mut work = Work {
-        pages: Pages::formatted(16),
-        log: Log { records: Vec::new(), slots: 1024 },
-        open: OpenBatches::default(),
-    };
+    let mut work = Work::formatted(16, 1024);
     let first = begin(&mut work);
     let fill = |key: &u32| update(&mut work, first, Kind::Insert, key * 10).is_err();
     let last = (1..).find(fill).expect("pages end");

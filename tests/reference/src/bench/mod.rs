@@ -20,5 +20,5 @@ pub use console::Console;
 pub use explain::explain;
 pub use instrument::{Event, Instrument};
 pub use random::Random;
-pub use trace::{damaged_trace, trace};
+pub use trace::{damaged_trace, run, trace, Run, Shape};
 pub use vectors::run_vectors;

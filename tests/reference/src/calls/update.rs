@@ -44,7 +44,8 @@ fn find(sound: &Sound, key: u32) -> Option<Entry> {
     sound.slides.iter().copied().find(|slide| slide.key == key)
 }
 
-fn update(mut work: Work, batch: u32, kind: Kind, slide: Entry) -> Result<Work, Refusal> {
+/// One update of an open batch, whose key is there or not as its kind wants.
+pub fn update(mut work: Work, batch: u32, kind: Kind, slide: Entry) -> Result<Work, Refusal> {
     // "An update needs u + 32 + 32(p + 1) + 2b at most the slots, and 7 + 7(p + 1) free pages": its own room, and the
     // room to undo it later.
     if !slots_suffice(&work, UPDATE_RECORDS, 1, 0) {
