@@ -17,7 +17,7 @@ pub use restart::redo_alone;
 pub use sound::{pages_suffice, slots_suffice, sound, Sound};
 
 pub(crate) use end::take_back;
-pub(crate) use update::update;
+pub(crate) use update::{update, write_update};
 
 use crate::layout::{Areas, Desk};
 

@@ -19,14 +19,14 @@ struct Aged {
     stored: usize,
 }
 
-/// So many pages and slots, used up but for about so many slots.
-pub fn aged(random: &mut Random, pages: usize, slots: usize, left: usize) -> Instrument {
+/// So many pages and slots, used up but for about so many slots, and the slides that are filed.
+pub fn aged(random: &mut Random, pages: usize, slots: usize, left: usize) -> (Instrument, BTreeMap<u32, u32>) {
     let work = Work::formatted(pages, slots);
     let mut aged = Aged { stable_pages: work.pages.bytes(), work, slides: BTreeMap::new(), stored: 0 };
     while aged.work.log.records.len() + left < slots && aged.has_room() {
         aged = aged.file_a_case(random);
     }
-    aged.instrument()
+    aged.finished()
 }
 
 impl Aged {
@@ -81,13 +81,13 @@ impl Aged {
         self.stable_pages[page * PAGE_BYTES..][..PAGE_BYTES].copy_from_slice(&bytes);
     }
 
-    fn instrument(self) -> Instrument {
+    fn finished(self) -> (Instrument, BTreeMap<u32, u32>) {
         let working_log = self.work.log.bytes();
         let mut stable_log = working_log.clone();
         stable_log[self.stored * SLOT_BYTES..].fill(0);
         let desk = self.work.open.desk(self.work.log.last_number(), self.stored as u32);
         let areas =
             Areas { working_pages: self.work.pages.bytes(), stable_pages: self.stable_pages, working_log, stable_log };
-        Instrument { areas, desk, cut: None }
+        (Instrument { areas, desk, cut: None }, self.slides)
     }
 }

@@ -16,28 +16,27 @@ mod trouble;
 
 pub use temper::Shape;
 
-use super::{Command, Instrument, Random};
+use super::{Book, Command, Instrument, Random};
 use crate::sizes::{MOST_PAGES, MOST_SLOTS};
+use aged::aged;
 use maker::Maker;
 
-/// A run: the register that it starts from, and its commands.
+/// A run: the register that it starts from, the plain book of that register if it has been formatted, and the commands.
 pub struct Run {
     pub start: Instrument,
+    pub book: Option<Book>,
     pub commands: Vec<Command>,
 }
 
 /// A run with at least this many calls.
 pub fn run(shape: Shape, seed: u64, calls: usize) -> Run {
     let mut maker = Maker::new(Random::new(seed), calls, shape);
-    let start = match shape {
-        Shape::Largest => {
-            let left = maker.random.within(200, 2000);
-            aged::aged(&mut maker.random, MOST_PAGES, MOST_SLOTS, left)
-        }
-        _ => Instrument::default(),
-    };
-    if start.areas.lengths_are_right() {
-        maker.start_from(start.clone());
+    let (mut start, mut book) = (Instrument::default(), None);
+    if shape == Shape::Largest {
+        let left = maker.random.within(200, 2000);
+        let (register, slides) = aged(&mut maker.random, MOST_PAGES, MOST_SLOTS, left);
+        maker.start_from(register.clone());
+        (start, book) = (register, Some(Book::of(slides)));
     } else {
         trouble::first_format(&mut maker);
     }
@@ -47,7 +46,7 @@ pub fn run(shape: Shape, seed: u64, calls: usize) -> Run {
         }
         step(&mut maker);
     }
-    Run { start, commands: maker.commands }
+    Run { start, book, commands: maker.commands }
 }
 
 /// The commands of a run from nothing, of the kind that demand 3 speaks of.
