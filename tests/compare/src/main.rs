@@ -17,13 +17,14 @@ use reference::bench::Shape;
 use std::process::ExitCode;
 use traces::compare_run;
 
-const USAGE: &str = "usage: compare gate | run plain|damaged|crowded|largest SEED CALLS | long SEED CALLS";
+const USAGE: &str = "usage: compare gate | try WORDS | run plain|damaged|crowded|largest SEED CALLS | long SEED CALLS";
 
 fn main() -> ExitCode {
     let arguments: Vec<String> = std::env::args().skip(1).collect();
     let words: Vec<&str> = arguments.iter().map(String::as_str).collect();
     let same = match words.as_slice() {
-        ["gate"] => Some(gate::gate()),
+        ["gate"] => Some(gate::gate("")),
+        ["try", words] => Some(gate::gate(words)),
         ["run", shape, seed, calls] => one_run(shape, seed, calls),
         ["long", seed, calls] => long(seed, calls),
         _ => None,

@@ -7,6 +7,7 @@ use crate::images::Images;
 use crate::tally::Tally;
 use reference::bench::{run, Book, Command, Event, Instrument, Random, Run, Shape};
 use reference::calls::{Call, Outcome};
+use reference::Refusal;
 
 /// What was compared.
 #[derive(Default)]
@@ -55,6 +56,8 @@ struct Course {
     random: Random,
     /// None before the first finished formatting, after damage, and after a cut formatting.
     book: Option<Book>,
+    /// Whether a finished call left the working areas and the desk, and nothing but calls and growth came since.
+    left_sound: bool,
     cuts: usize,
 }
 
@@ -62,7 +65,8 @@ impl Course {
     fn new(model: Instrument, book: Option<Book>, seed: u64) -> Course {
         let mut beside = Beside::new();
         beside.loan.set(&model.areas, &model.desk);
-        Course { model, beside, images: Images::new(seed), random: Random::new(seed), book, cuts: 0 }
+        let left_sound = book.is_some();
+        Course { model, beside, images: Images::new(seed), random: Random::new(seed), book, left_sound, cuts: 0 }
     }
 
     fn follow(&mut self, command: &Command) -> Result<(), Difference> {
@@ -72,7 +76,7 @@ impl Course {
         self.model.run(command);
         self.beside.loan.set(&self.model.areas, &self.model.desk);
         match command {
-            Command::Damage { .. } => self.book = None,
+            Command::Damage { .. } => (self.book, self.left_sound) = (None, false),
             Command::Lend(_) => self.check_image()?,
             _ => {}
         }
@@ -81,9 +85,13 @@ impl Course {
 
     fn make(&mut self, made: Call) -> Result<(), Difference> {
         let outcome = self.beside.go_on(&self.model.areas, &self.model.desk, made)?;
+        if self.left_sound && outcome.answer == Err(Refusal::Unsound) {
+            return Err(Difference::new("11 on what a finished call left, by the library and the model"));
+        }
         self.check_cuts(made, &outcome)?;
         let event = self.model.take(made, outcome);
         self.book = Book::after(self.book.take(), &event);
+        self.left_sound = leaves_sound(&event, self.left_sound);
         if event.was_cut {
             self.cuts += 1;
             self.beside.loan.set(&self.model.areas, &self.model.desk);
@@ -130,5 +138,16 @@ impl Course {
         let mut seen = Seen { tally: self.beside.tally, images: images.calls(), cuts: self.cuts };
         seen.tally.add(&images);
         seen
+    }
+}
+
+/// Whether the working areas and the desk are what a finished call left, after this event.
+fn leaves_sound(event: &Event, before: bool) -> bool {
+    match (event.call, event.answer) {
+        _ if event.was_cut => false,
+        (_, Ok(_)) => true,
+        // Both leave an empty desk.
+        (Call::Format | Call::Restart, Err(_)) => false,
+        (_, Err(_)) => before,
     }
 }

@@ -87,7 +87,7 @@ fn linked_before_a_join(records: &[&Record]) -> Option<&'static str> {
 }
 
 /// What the traces are for. Restart's 5 and 6 need damage, and its 18 and abort's 19 an image past the reserves.
-const WANTED: [&str; 67] = [
+const WANTED: [&str; 68] = [
     "link after the right neighbour",
     "link of the left neighbour",
     "Split at level 0",
@@ -107,6 +107,7 @@ const WANTED: [&str; 67] = [
     "Format refused 1",
     "Begin refused 11",
     "Begin refused 13",
+    "Begin refused 17",
     "Fetch refused 11",
     "Fetch refused 12",
     "Fetch refused 14",

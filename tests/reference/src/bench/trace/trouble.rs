@@ -1,7 +1,7 @@
 //! What goes wrong: cuts, restarts that are cut again, refusals on purpose, areas that grow or do not fit.
 
 use super::beside::split_beside_a_thin_leaf;
-use super::crossing::cross_batches;
+use super::crossing::{begin, cross_batches};
 use super::everyday::{end_call, read_call, update_call, write_out_call};
 use super::maker::{stores_of, Maker};
 use crate::calls::Call;
@@ -106,7 +106,17 @@ pub fn renew(maker: &mut Maker) {
     for batch in open {
         maker.make(Call::Commit { batch });
     }
+    if maker.random.once_in(3) {
+        use_up(maker);
+    }
     give_more_or_format(maker);
+}
+
+/// Cases without slides, until not even a begin has its slots.
+fn use_up(maker: &mut Maker) {
+    while let Some(batch) = begin(maker) {
+        maker.make(Call::Commit { batch });
+    }
 }
 
 fn give_more_or_format(maker: &mut Maker) {

@@ -1,0 +1,20 @@
+# The library that C programs link, and how they are compiled over it. Sourced by scripts that stand at the repository's top.
+#
+# CAPI_LIBRARY names another library with the same functions, to try the programs themselves; otherwise it is made anew.
+library=${CAPI_LIBRARY:-target/staticlib/libcapi.a}
+
+# library_made LOG: makes the library where none is named. What that says goes to the file, and its end is shown where it fails.
+library_made() {
+    [ -z "${CAPI_LIBRARY:-}" ] || return 0
+    rt staticlib capi >"$1" 2>&1 || {
+        tail -n 20 "$1" >&2
+        return 1
+    }
+}
+
+# c_program PROGRAM SOURCE_OR_FLAG..: a program over the library. Libraries that it needs besides are named after its sources.
+c_program() {
+    local program=$1
+    shift
+    cc -std=c11 -O2 -Wall -Wextra -Werror -Iinclude -Itests/c "$@" "$library" ${CAPI_LIBRARY:+-lm} -o "$program"
+}
