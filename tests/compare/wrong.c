@@ -23,8 +23,8 @@ enum deed {
 
 struct fault {
     const char *name;
-    char letter; /* the call, as in vectors/README.md */
-    uint32_t when; /* what it returns when it is right */
+    char letter;        /* the call, as in vectors/README.md */
+    uint32_t when;      /* what it returns when it is right */
     enum deed deed;
     uint32_t with;
     size_t least_pages; /* only where the pages have so many bytes */
@@ -42,6 +42,7 @@ static const struct fault faults[] = {
     {"write-out-stores-another-page", 'W', 0, TURNS, STABLE_PAGES, 0},
     {"restart-counts-another-number", 'R', 0, TURNS, VALUES, 0},
     {"fetch-writes-a-stable-page", 'F', 16, TURNS, STABLE_PAGES, 0},
+    {"insert-without-batch-answers-11", 'I', 12, ANSWERS, 11, 0},
     {"ninth-begin-answers-17", 'B', 13, ANSWERS, 17, 0},
     {"large-insert-writes-another-page", 'I', 0, TURNS, WORK_PAGES, LARGE},
     {"redo-refuses-with-6-for-5", 'R', 5, ANSWERS, 6, 0},

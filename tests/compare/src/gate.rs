@@ -19,14 +19,14 @@ struct Runs {
 
 const RUNS: [Runs; 4] = [
     Runs { what: "plain runs, cut after every store", shape: Shape::Plain, seeds: 1..25, calls: 1500 },
-    Runs { what: "runs with damaged and forged images", shape: Shape::Damaged, seeds: 1..9, calls: 1500 },
+    Runs { what: "runs with damage in between", shape: Shape::Damaged, seeds: 1..9, calls: 1500 },
     Runs { what: "runs with eight batches open", shape: Shape::Crowded, seeds: 1..7, calls: 1500 },
     Runs { what: "runs at the largest size", shape: Shape::Largest, seeds: 1..4, calls: 150 },
 ];
 
 type Try = (&'static str, fn() -> damage::Tried);
 
-const TRIES: [Try; 15] = [
+const TRIES: [Try; 16] = [
     ("every bit of a stored image turned", damage::bits_of_the_image),
     ("bits of all areas turned, for the other calls", damage::bits_for_other_calls),
     ("every bit of the desk turned", damage::bits_of_the_desk),
@@ -41,6 +41,7 @@ const TRIES: [Try; 15] = [
     ("a desk or values of a wrong length", damage::lengths_of_desk_and_values),
     ("areas, desks and numbers of any kind", damage::anything),
     ("forged images", damage::forged_images),
+    ("registers with changes redone and nothing undone", damage::redone_registers),
     ("images past the reserves", damage::shortage),
 ];
 

@@ -7,12 +7,14 @@ mod busy;
 mod lengths;
 mod pages;
 mod records;
+mod redone;
 
 pub use anything::{anything, forged_images, shortage};
 pub use bits::{bits_for_other_calls, bits_of_the_desk, bits_of_the_image};
 pub use lengths::{lengths_of_areas, lengths_of_desk_and_values};
 pub use pages::{mixed_pages, pages_at_wrong_places, stale_pages};
 pub use records::{repeated_records, swapped_records, torn_records, truncated_logs};
+pub use redone::redone_registers;
 
 use crate::beside::Beside;
 use crate::difference::Difference;
