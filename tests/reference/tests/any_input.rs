@@ -4,32 +4,17 @@
 mod common;
 
 use common::each_event;
+use reference::bench::any::{any_areas, any_call, any_desk};
 use reference::bench::forge::{forge_image, turn_a_bit};
 use reference::bench::{Instrument, Random};
 use reference::calls::{call, sound, Call, Outcome};
 use reference::layout::{Areas, Desk};
-use reference::sizes::{DESK_NUMBERS, FEWEST_PAGES, FEWEST_SLOTS, MOST_PAGES, MOST_SLOTS, PAGE_BYTES, SLOT_BYTES};
+use reference::sizes::DESK_NUMBERS;
 use reference::Refusal;
 use std::collections::BTreeMap;
 
 /// How often each answer was met: 0, or the refusal's number.
 type Met = BTreeMap<u8, usize>;
-
-fn any_call(random: &mut Random) -> Call {
-    let (batch, key, value) = (random.below(40) as u32, random.number(), random.number());
-    match random.below(10) {
-        0 => Call::Format,
-        1 => Call::Begin,
-        2 => Call::Fetch { batch, key },
-        3 => Call::Next { batch, key },
-        4 => Call::Insert { batch, key, value },
-        5 => Call::Delete { batch, key },
-        6 => Call::Commit { batch },
-        7 => Call::Abort { batch },
-        8 => Call::WriteOut { page: random.below(60) as u32 },
-        _ => Call::Restart,
-    }
-}
 
 /// "A refusal changes nothing, except that restart's 3 to 18 zero the working areas; a refused format or restart gives an
 /// empty desk." A call that passes leaves sound areas, and its stores are all that changed in the stable ones.
@@ -62,44 +47,14 @@ fn check_met(met: &Met, wanted: &[u8]) {
     assert!(wanted.iter().all(|number| met.contains_key(number)), "{met:?}");
 }
 
-/// Mostly a right length; else none, one too short or too long, or one that is no whole number of units.
-fn any_length(random: &mut Random, unit: usize, fewest: usize, most: usize) -> usize {
-    match random.below(40) {
-        0 => 0,
-        1 => unit * (fewest - 1),
-        2 => unit * (most + 1),
-        3 => unit * fewest + random.below(unit),
-        _ => unit * random.within(fewest, fewest + 40),
-    }
-}
-
-fn any_bytes(random: &mut Random, length: usize) -> Vec<u8> {
-    let mut bytes = vec![[0, 0, 0xA5, 0xFF][random.below(4)]; length];
-    for _ in 0..random.below(40).min(length) {
-        let place = random.below(length);
-        bytes[place] = random.next() as u8;
-    }
-    bytes
-}
-
 #[test]
 fn areas_of_any_lengths_and_bytes() {
     let mut random = Random::new(11);
     let mut met = Met::new();
     for _ in 0..1500 {
-        let pages = any_length(&mut random, PAGE_BYTES, FEWEST_PAGES, MOST_PAGES);
-        let log = any_length(&mut random, SLOT_BYTES, FEWEST_SLOTS, MOST_SLOTS);
-        let other_pages = if random.once_in(20) { pages + PAGE_BYTES } else { pages };
-        let other_log = if random.once_in(20) { log + SLOT_BYTES } else { log };
-        let areas = Areas {
-            working_pages: any_bytes(&mut random, pages),
-            stable_pages: any_bytes(&mut random, other_pages),
-            working_log: any_bytes(&mut random, log),
-            stable_log: any_bytes(&mut random, other_log),
-        };
-        let numbers: [u32; DESK_NUMBERS] = std::array::from_fn(|_| [0, 1, random.number()][random.below(3)]);
+        let (areas, desk) = (any_areas(&mut random), any_desk(&mut random));
         let made = any_call(&mut random);
-        try_call(&areas, &Desk::of_numbers(numbers), made, &mut met);
+        try_call(&areas, &desk, made, &mut met);
     }
     check_met(&met, &[0, 1, 2, 3, 11]);
 }

@@ -7,37 +7,9 @@ use common::each_event;
 use reference::bench::{Book, Event, Instrument};
 use reference::calls::{call, redo_alone, sound, Answer, Call, Outcome};
 use reference::layout::{Areas, Desk, Kind};
-use reference::sizes::{MOST_PAGES, PAGE_BYTES, SLOT_BYTES};
+use reference::sizes::MOST_PAGES;
 use reference::tree::slides_of;
 use reference::Refusal;
-
-/// The book after an event, or none between a cut formatting and the next finished one.
-fn book_after(book: Option<Book>, event: &Event) -> Option<Book> {
-    match (event.call, event.answer.is_ok(), event.was_cut) {
-        (Call::Format, true, true) => None,
-        (Call::Format, true, false) => Some(Book::default()),
-        _ => book.map(|mut book| {
-            book.take(event);
-            book
-        }),
-    }
-}
-
-/// The image with its lengths grown by zeros to right ones.
-fn with_right_lengths(areas: &Areas) -> Areas {
-    let pages = areas.working_pages.len().max(areas.stable_pages.len()).div_ceil(PAGE_BYTES);
-    let slots = areas.working_log.len().max(areas.stable_log.len()).div_ceil(SLOT_BYTES);
-    grown(areas, pages, slots)
-}
-
-fn grown(areas: &Areas, pages: usize, slots: usize) -> Areas {
-    let mut grown = areas.clone();
-    grown.working_pages.resize(pages * PAGE_BYTES, 0);
-    grown.stable_pages.resize(pages * PAGE_BYTES, 0);
-    grown.working_log.resize(slots * SLOT_BYTES, 0);
-    grown.stable_log.resize(slots * SLOT_BYTES, 0);
-    grown
-}
 
 fn restart(areas: &Areas) -> Outcome {
     call(areas, &Desk::empty(), Call::Restart)
@@ -45,14 +17,14 @@ fn restart(areas: &Areas) -> Outcome {
 
 /// A restart of the stored image, given right lengths and not cut.
 fn check_image(areas: &Areas, book: &Book) {
-    let image = with_right_lengths(areas);
+    let image = areas.with_right_lengths();
     let (redone, _) = redo_alone(&image).expect("redo never meets damage");
     assert!(slides_of(&redone.pages).is_some(), "redo alone gives a tree by the rules");
     let outcome = restart(&image);
     match outcome.answer {
         Ok(_) => check_slides(&outcome, book),
         Err(refusal @ (Refusal::SlotsShort | Refusal::PagesShort)) => {
-            let larger = restart(&grown(&image, MOST_PAGES, image.slot_count() + 2000));
+            let larger = restart(&image.grown(MOST_PAGES, image.slot_count() + 2000));
             check_slides(&larger, book);
             assert_eq!(Some(refusal), first_shortage(&image, redone.pages.free_count(), &larger));
         }
@@ -94,7 +66,7 @@ fn check_every_cut(before: &Instrument, made: Call, book: &Option<Book>) {
     let stores = outcome.stores.len();
     for carried_out in 1..stores {
         let event = Event { call: made, answer: outcome.answer, was_cut: true, carried_out, stores };
-        let Some(book) = book_after(book.clone(), &event) else {
+        let Some(book) = Book::after(book.clone(), &event) else {
             return;
         };
         let mut cut = before.clone();
@@ -133,7 +105,7 @@ fn check_trace(seed: u64, calls: usize, seen: &mut Seen) {
     each_event(seed, calls, |before, event, after| {
         check_every_cut(before, event.call, &book);
         let slides_before = book.as_ref().map(|book| book.slides.clone());
-        book = book_after(book.take(), event);
+        book = Book::after(book.take(), event);
         let slides = book.as_ref().map(|book| &book.slides);
         // The same image and the same slides would only be looked at twice.
         if !same_image(before, after) || slides_before.as_ref() != slides {

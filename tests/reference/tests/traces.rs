@@ -3,7 +3,7 @@
 mod common;
 
 use common::{each_event, each_event_of};
-use reference::bench::{damaged_trace, trace, Command, Event, Instrument};
+use reference::bench::{damaged_trace, run, trace, Command, Event, Instrument, Shape};
 use reference::calls::sound;
 use reference::layout::{Kind, Page, Record, Store};
 use std::collections::BTreeSet;
@@ -87,7 +87,7 @@ fn linked_before_a_join(records: &[&Record]) -> Option<&'static str> {
 }
 
 /// What the traces are for. Restart's 5 and 6 need damage, and its 18 and abort's 19 an image past the reserves.
-const WANTED: [&str; 67] = [
+const WANTED: [&str; 68] = [
     "link after the right neighbour",
     "link of the left neighbour",
     "Split at level 0",
@@ -107,6 +107,7 @@ const WANTED: [&str; 67] = [
     "Format refused 1",
     "Begin refused 11",
     "Begin refused 13",
+    "Begin refused 17",
     "Fetch refused 11",
     "Fetch refused 12",
     "Fetch refused 14",
@@ -175,4 +176,21 @@ fn the_damaged_traces_meet_restarts_reasons_and_go_on() {
     }
     let wanted = [3, 4, 5, 6].map(|number| format!("Restart refused {number}"));
     assert!(wanted.iter().all(|feature| met.contains(feature)), "{met:?}");
+}
+
+#[test]
+fn a_crowded_trace_has_eight_open_batches_with_something_pending() {
+    let mut most = 0;
+    each_event_of(&run(Shape::Crowded, 1, 1000).commands, |_, _, after| {
+        most = most.max(after.desk.rows.iter().filter(|row| row.pending > 0).count());
+    });
+    assert_eq!(most, 8);
+}
+
+#[test]
+fn the_largest_run_starts_from_a_sound_register_with_most_slots_used() {
+    let Instrument { areas, desk, .. } = run(Shape::Largest, 1, 1).start;
+    let sound = sound(&areas, &desk).expect("sound");
+    assert!(areas.page_count() == 896 && areas.slot_count() == 16_384 && desk.written > 14_000);
+    assert!(sound.work.page(1).level >= 3 && sound.work.pages.free_count() < 200);
 }

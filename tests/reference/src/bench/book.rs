@@ -15,6 +15,23 @@ pub struct Book {
 type Line = (u32, Option<u32>);
 
 impl Book {
+    /// A book with these slides, and no case open.
+    pub fn of(slides: BTreeMap<u32, u32>) -> Book {
+        Book { slides, sheets: BTreeMap::new() }
+    }
+
+    /// The book after an event, where there is one: none stands between a cut formatting and the next finished one.
+    pub fn after(book: Option<Book>, event: &Event) -> Option<Book> {
+        match (event.call, event.answer.is_ok(), event.was_cut) {
+            (Call::Format, true, true) => None,
+            (Call::Format, true, false) => Some(Book::default()),
+            _ => book.map(|mut book| {
+                book.take(event);
+                book
+            }),
+        }
+    }
+
     pub fn take(&mut self, event: &Event) {
         match (event.call, event.finished()) {
             // "Begin opens one under its answer."

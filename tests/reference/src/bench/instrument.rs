@@ -67,6 +67,11 @@ impl Instrument {
 
     pub fn make(&mut self, made: Call) -> Event {
         let outcome = self.outcome_of(made);
+        self.take(made, outcome)
+    }
+
+    /// Take what a call gives, or what a cut leaves of it.
+    pub fn take(&mut self, made: Call, outcome: Outcome) -> Event {
         let cut = self.cut.take();
         let stores = outcome.stores.len();
         let carried_out = cut.map_or(stores, |limit| limit.min(stores));

@@ -1,11 +1,13 @@
 //! What the tests need around the calls: an instrument with a plug to pull, the vector and console formats, random
 //! traces, and 01's plain book.
 
+pub mod any;
 mod book;
 mod command;
 mod console;
 mod explain;
 pub mod forge;
+mod full;
 mod hash;
 mod instrument;
 mod line;
@@ -14,11 +16,12 @@ mod trace;
 mod vectors;
 
 pub use book::Book;
-pub use command::Command;
+pub use command::{letter_of, Command};
 pub use console::run_console;
 pub use console::Console;
 pub use explain::explain;
+pub use full::{full_register, image_of};
 pub use instrument::{Event, Instrument};
 pub use random::Random;
-pub use trace::{damaged_trace, trace};
+pub use trace::{damaged_trace, run, trace, Run, Shape};
 pub use vectors::run_vectors;

@@ -39,7 +39,8 @@ fn try_abort(areas: &Areas, desk: &Desk, batch: u32) -> Result<Work, Refusal> {
     Ok(work)
 }
 
-fn take_back(work: &mut Work, batch: u32) -> Result<(), Refusal> {
+/// Undo all that an open batch has pending, and end it.
+pub fn take_back(work: &mut Work, batch: u32) -> Result<(), Refusal> {
     work.write_about_batch(Kind::AbortMark, batch)?;
     while let Some(newest) = work.open.find(batch).and_then(|open| open.pending.last().copied()) {
         undo_newest(work, batch, newest)?;

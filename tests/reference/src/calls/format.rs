@@ -2,8 +2,8 @@
 //! slots, in order."
 
 use super::{Answer, Outcome};
-use crate::layout::{Areas, Desk, Pages, Store};
-use crate::log::{Log, OpenBatches, Work};
+use crate::layout::{Areas, Desk, Store};
+use crate::log::Work;
 use crate::sizes::SLOT_BYTES;
 use crate::Refusal;
 
@@ -12,11 +12,7 @@ pub fn format(areas: &Areas) -> Outcome {
         // "A refused format gives an empty desk."
         return Outcome::refused(areas, &Desk::empty(), Refusal::Lengths);
     }
-    let work = Work {
-        pages: Pages::formatted(areas.page_count()),
-        log: Log { records: Vec::new(), slots: areas.slot_count() },
-        open: OpenBatches::default(),
-    };
+    let work = Work::formatted(areas.page_count(), areas.slot_count());
     let page_store = |page| Store::Page { page, bytes: work.pages.page_bytes(page) };
     let slot_store = |slot| Store::Slot { slot, bytes: [0; SLOT_BYTES] };
     let pages = (0..areas.page_count()).map(page_store);

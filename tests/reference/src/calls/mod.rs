@@ -16,6 +16,9 @@ pub use outcome::{Answer, Outcome};
 pub use restart::redo_alone;
 pub use sound::{pages_suffice, slots_suffice, sound, Sound};
 
+pub(crate) use end::take_back;
+pub(crate) use update::{update, write_update};
+
 use crate::layout::{Areas, Desk};
 
 #[derive(Clone, Copy, Debug, PartialEq, Eq)]

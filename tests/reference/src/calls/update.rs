@@ -44,7 +44,8 @@ fn find(sound: &Sound, key: u32) -> Option<Entry> {
     sound.slides.iter().copied().find(|slide| slide.key == key)
 }
 
-fn update(mut work: Work, batch: u32, kind: Kind, slide: Entry) -> Result<Work, Refusal> {
+/// One update of an open batch, whose key is there or not as its kind wants.
+pub fn update(mut work: Work, batch: u32, kind: Kind, slide: Entry) -> Result<Work, Refusal> {
     // "An update needs u + 32 + 32(p + 1) + 2b at most the slots, and 7 + 7(p + 1) free pages": its own room, and the
     // room to undo it later.
     if !slots_suffice(&work, UPDATE_RECORDS, 1, 0) {
@@ -53,10 +54,14 @@ fn update(mut work: Work, batch: u32, kind: Kind, slide: Entry) -> Result<Work, 
     if !pages_suffice(&work, UPDATE_PAGES, 1) {
         return Err(Refusal::PagesShort);
     }
-    let purpose = if kind == Kind::Insert { Purpose::Adding } else { Purpose::Removing };
-    let leaf = go_down(&mut work, slide.key, purpose)?;
-    let previous = work.open.find(batch).map_or(0, |open| open.last);
-    let record = Record { batch, previous, a: leaf, key: slide.key, second: slide.value, ..Record::new(kind) };
-    work.write(record)?;
+    write_update(&mut work, batch, kind, slide)?;
     Ok(work)
+}
+
+/// The same without asking for the room to undo it.
+pub fn write_update(work: &mut Work, batch: u32, kind: Kind, slide: Entry) -> Result<(), Refusal> {
+    let purpose = if kind == Kind::Insert { Purpose::Adding } else { Purpose::Removing };
+    let leaf = go_down(work, slide.key, purpose)?;
+    let previous = work.open.find(batch).map_or(0, |open| open.last);
+    work.write(Record { batch, previous, a: leaf, key: slide.key, second: slide.value, ..Record::new(kind) })
 }

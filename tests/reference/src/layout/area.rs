@@ -45,6 +45,23 @@ impl Areas {
         }
     }
 
+    /// Areas of so many pages and slots, the added part zero.
+    pub fn grown(&self, pages: usize, slots: usize) -> Areas {
+        let mut grown = self.clone();
+        grown.working_pages.resize(pages * PAGE_BYTES, 0);
+        grown.stable_pages.resize(pages * PAGE_BYTES, 0);
+        grown.working_log.resize(slots * SLOT_BYTES, 0);
+        grown.stable_log.resize(slots * SLOT_BYTES, 0);
+        grown
+    }
+
+    /// Grown by zeros until working and stable areas are equally long and hold whole pages and slots.
+    pub fn with_right_lengths(&self) -> Areas {
+        let pages = self.working_pages.len().max(self.stable_pages.len()).div_ceil(PAGE_BYTES);
+        let slots = self.working_log.len().max(self.stable_log.len()).div_ceil(SLOT_BYTES);
+        self.grown(pages, slots)
+    }
+
     /// Both working areas filled with one byte: what refused restarts leave (0), or a cut.
     pub fn fill_working(&mut self, byte: u8) {
         self.working_pages.fill(byte);

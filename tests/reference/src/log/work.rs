@@ -14,6 +14,12 @@ pub struct Work {
 }
 
 impl Work {
+    /// A register without slides, of so many pages and slots.
+    pub fn formatted(pages: usize, slots: usize) -> Work {
+        let log = Log { records: Vec::new(), slots };
+        Work { pages: Pages::formatted(pages), log, open: OpenBatches::default() }
+    }
+
     /// Restart's checks 3 and 4, on any pair of a page area and a log area of right lengths.
     pub fn read(page_area: &[u8], log_area: &[u8]) -> Result<Work, Refusal> {
         let pages = Pages::read(page_area).ok_or(Refusal::Layout)?;

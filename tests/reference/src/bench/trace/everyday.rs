@@ -7,8 +7,8 @@ use crate::log::page_changes;
 use crate::sizes::{MAP, ROOT};
 
 pub fn step(maker: &mut Maker) {
-    let enough = maker.pending_count() >= maker.wanted_pending || !maker.update_fits();
-    if maker.random.once_in(maker.calm) {
+    let enough = maker.pending_count() >= maker.temper.wanted_pending || !maker.update_fits();
+    if maker.random.once_in(maker.temper.calm) {
         trouble::some_trouble(maker);
     } else if enough && maker.pending_count() > 0 && !maker.random.once_in(5) {
         end_batch(maker);
@@ -19,7 +19,9 @@ pub fn step(maker: &mut Maker) {
 
 fn everyday(maker: &mut Maker) {
     match maker.random.below(100) {
-        0..=7 if maker.batches().len() < maker.wanted_open => drop(maker.make(Call::Begin)),
+        share if share < maker.temper.begins && maker.batches().len() < maker.temper.wanted_open => {
+            maker.make(Call::Begin);
+        }
         0..=76 => drop(update_call(maker).map(|call| maker.make(call))),
         77..=81 => end_batch(maker),
         82..=89 => drop(read_call(maker).map(|call| maker.make(call))),

@@ -1,6 +1,7 @@
 //! The maker of a trace: what it has written so far, and the instrument that ran it.
 
 use super::keys::Keys;
+use super::temper::{Shape, Temper};
 use crate::bench::instrument::lengths;
 use crate::bench::{Command, Event, Instrument, Random};
 use crate::calls::{pages_suffice, slots_suffice, sound, Call, Sound};
@@ -16,15 +17,7 @@ pub struct Maker {
     pub commands: Vec<Command>,
     pub calls_left: usize,
     pub keys: Keys,
-    /// How many batches to keep open, and how many updates to leave pending in all of them.
-    pub wanted_open: usize,
-    pub wanted_pending: usize,
-    pub deep: bool,
-    /// Trouble comes once in so many steps.
-    pub calm: usize,
-    /// Growth stops here.
-    pub most_pages: usize,
-    pub most_slots: usize,
+    pub temper: Temper,
 }
 
 /// A fetch or next changes nothing, and neither does a refusal but for formats and restarts.
@@ -47,26 +40,17 @@ pub fn stores_of(stores: &[Store], wanted: fn(Kind) -> bool) -> Vec<usize> {
 }
 
 impl Maker {
-    /// Half of the runs are quiet and large, to reach trees of three levels; the others are of any size and temper.
-    pub fn new(mut random: Random, calls: usize) -> Maker {
-        let deep = random.once_in(2);
-        let most_pages = if deep { random.within(160, 300) } else { [20, 40, 80, 160][random.below(4)] };
-        let most_slots = if deep { 2000 } else { [100, 200, 500, 1000][random.below(4)] };
-        let calm = if deep { [40, 80, 150] } else { [5, 15, 40] }[random.below(3)];
-        Maker {
-            instrument: Instrument::default(),
-            sound: None,
-            commands: Vec::new(),
-            calls_left: calls,
-            keys: Keys::new(&mut random, most_pages),
-            wanted_open: random.within(1, 4),
-            wanted_pending: if deep { random.within(6, 16) } else { random.within(2, 12) },
-            deep,
-            calm,
-            most_pages,
-            most_slots,
-            random,
-        }
+    pub fn new(mut random: Random, calls: usize, shape: Shape) -> Maker {
+        let temper = Temper::new(&mut random, shape);
+        let keys = Keys::new(&mut random, temper.most_pages);
+        let instrument = Instrument::default();
+        Maker { random, instrument, sound: None, commands: Vec::new(), calls_left: calls, keys, temper }
+    }
+
+    /// Go on from a register that is there already.
+    pub fn start_from(&mut self, instrument: Instrument) {
+        self.instrument = instrument;
+        self.look();
     }
 
     pub fn make(&mut self, call: Call) -> Event {

@@ -4,38 +4,59 @@
 //! grow and shrink again, several batches are open at once, calls are refused on purpose, power fails at every kind of
 //! store and in restarts, and the areas grow.
 
+mod aged;
 mod beside;
 mod crossing;
 mod damage;
 mod everyday;
 mod keys;
 mod maker;
+mod temper;
 mod trouble;
 
-use super::{Command, Random};
+pub use temper::Shape;
+
+use super::{Book, Command, Instrument, Random};
+use crate::sizes::{MOST_PAGES, MOST_SLOTS};
+use aged::aged;
 use maker::Maker;
 
-/// The commands of a run with at least this many calls, of the kind that demand 3 speaks of.
-pub fn trace(seed: u64, calls: usize) -> Vec<Command> {
-    let mut maker = Maker::new(Random::new(seed), calls);
-    trouble::first_format(&mut maker);
-    while maker.calls_left > 0 {
-        step(&mut maker);
-    }
-    maker.commands
+/// A run: the register that it starts from, the plain book of that register if it has been formatted, and the commands.
+pub struct Run {
+    pub start: Instrument,
+    pub book: Option<Book>,
+    pub commands: Vec<Command>,
 }
 
-/// The same, with damage once in a while: what demand 1 speaks of.
-pub fn damaged_trace(seed: u64, calls: usize) -> Vec<Command> {
-    let mut maker = Maker::new(Random::new(seed), calls);
-    trouble::first_format(&mut maker);
+/// A run with at least this many calls.
+pub fn run(shape: Shape, seed: u64, calls: usize) -> Run {
+    let mut maker = Maker::new(Random::new(seed), calls, shape);
+    let (mut start, mut book) = (Instrument::default(), None);
+    if shape == Shape::Largest {
+        let left = maker.random.within(200, 2000);
+        let (register, slides) = aged(&mut maker.random, MOST_PAGES, MOST_SLOTS, left);
+        maker.start_from(register.clone());
+        (start, book) = (register, Some(Book::of(slides)));
+    } else {
+        trouble::first_format(&mut maker);
+    }
     while maker.calls_left > 0 {
-        if maker.random.once_in(12) {
+        if shape == Shape::Damaged && maker.random.once_in(12) {
             damage::damage(&mut maker);
         }
         step(&mut maker);
     }
-    maker.commands
+    Run { start, book, commands: maker.commands }
+}
+
+/// The commands of a run from nothing, of the kind that demand 3 speaks of.
+pub fn trace(seed: u64, calls: usize) -> Vec<Command> {
+    run(Shape::Plain, seed, calls).commands
+}
+
+/// The same, with damage.
+pub fn damaged_trace(seed: u64, calls: usize) -> Vec<Command> {
+    run(Shape::Damaged, seed, calls).commands
 }
 
 fn step(maker: &mut Maker) {

@@ -1,7 +1,7 @@
 //! What goes wrong: cuts, restarts that are cut again, refusals on purpose, areas that grow or do not fit.
 
 use super::beside::split_beside_a_thin_leaf;
-use super::crossing::cross_batches;
+use super::crossing::{begin, cross_batches};
 use super::everyday::{end_call, read_call, update_call, write_out_call};
 use super::maker::{stores_of, Maker};
 use crate::calls::Call;
@@ -11,10 +11,10 @@ use crate::sizes::{FEWEST_PAGES, FEWEST_SLOTS, PAGE_BYTES, SLOT_BYTES, TOP};
 
 /// Lend the areas, sometimes call before they are formatted, and format.
 pub fn first_format(maker: &mut Maker) {
-    let fewest_pages = if maker.deep { maker.most_pages / 2 } else { FEWEST_PAGES };
-    let fewest_slots = if maker.deep { maker.most_slots - 200 } else { FEWEST_SLOTS };
-    let pages = maker.random.within(fewest_pages, maker.most_pages);
-    let slots = maker.random.within(fewest_slots, maker.most_slots);
+    let fewest_pages = if maker.temper.deep { maker.temper.most_pages / 2 } else { FEWEST_PAGES };
+    let fewest_slots = if maker.temper.deep { maker.temper.most_slots - 200 } else { FEWEST_SLOTS };
+    let pages = maker.random.within(fewest_pages, maker.temper.most_pages);
+    let slots = maker.random.within(fewest_slots, maker.temper.most_slots);
     if maker.random.once_in(4) {
         maker.lend_even(FEWEST_PAGES - 1, FEWEST_SLOTS - 1);
         maker.make(Call::Format);
@@ -106,11 +106,21 @@ pub fn renew(maker: &mut Maker) {
     for batch in open {
         maker.make(Call::Commit { batch });
     }
+    if maker.random.once_in(3) {
+        use_up(maker);
+    }
     give_more_or_format(maker);
 }
 
+/// Cases without slides, until not even a begin has its slots.
+fn use_up(maker: &mut Maker) {
+    while let Some(batch) = begin(maker) {
+        maker.make(Call::Commit { batch });
+    }
+}
+
 fn give_more_or_format(maker: &mut Maker) {
-    let can_grow = maker.slot_count() < maker.most_slots || maker.page_count() < maker.most_pages;
+    let can_grow = maker.slot_count() < maker.temper.most_slots || maker.page_count() < maker.temper.most_pages;
     if can_grow && maker.random.once_in(2) {
         grow(maker);
     } else if maker.random.once_in(6) {
@@ -124,15 +134,15 @@ fn give_more_or_format(maker: &mut Maker) {
 fn grow(maker: &mut Maker) {
     let pages = maker.page_count() + maker.random.below(12);
     let slots = maker.slot_count() + maker.random.below(120);
-    let pages = pages.min(maker.most_pages).max(maker.page_count());
-    let slots = slots.min(maker.most_slots).max(maker.slot_count());
+    let pages = pages.min(maker.temper.most_pages).max(maker.page_count());
+    let slots = slots.min(maker.temper.most_slots).max(maker.slot_count());
     maker.lend_even(pages, slots);
 }
 
 /// One area alone is longer, by a page or slot or by a byte: every call is refused, a format too. Then all are.
 fn uneven_areas(maker: &mut Maker) {
     let (pages, slots) = (maker.page_count(), maker.slot_count());
-    if pages >= maker.most_pages || slots >= maker.most_slots {
+    if pages >= maker.temper.most_pages || slots >= maker.temper.most_slots {
         return;
     }
     let mut lengths = crate::bench::instrument::lengths(pages, slots);

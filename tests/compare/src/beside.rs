@@ -1,0 +1,65 @@
+//! The library beside the model: one call of both, and every answer and byte compared.
+
+use crate::difference::{same_area, same_desk, same_number, Difference};
+use crate::library;
+use crate::loan::Loan;
+use crate::rules;
+use crate::tally::Tally;
+use reference::calls::{call, Answer, Call, Outcome};
+use reference::layout::{Areas, Desk};
+use reference::Refusal;
+
+pub struct Beside {
+    pub loan: Loan,
+    pub tally: Tally,
+}
+
+impl Beside {
+    pub fn new() -> Beside {
+        Beside { loan: Loan::new(), tally: Tally::default() }
+    }
+
+    /// Make a call on these areas and this desk, by both. Answers what the model gives, which is what the library gave.
+    pub fn try_on(&mut self, areas: &Areas, desk: &Desk, made: Call) -> Result<Outcome, Difference> {
+        self.loan.set(areas, desk);
+        self.go_on(areas, desk, made)
+    }
+
+    /// The same where the areas and the desk are those that are lent already: the library works on what it left.
+    pub fn go_on(&mut self, areas: &Areas, desk: &Desk, made: Call) -> Result<Outcome, Difference> {
+        let outcome = call(areas, desk, made);
+        self.loan.clear_values();
+        let reason = library::call(&mut self.loan, made);
+        self.tally.count(made, reason);
+        self.same_as(reason, &outcome)?;
+        rules::check(made, reason, areas, desk, &self.loan)?;
+        Ok(outcome)
+    }
+
+    fn same_as(&self, reason: u32, outcome: &Outcome) -> Result<(), Difference> {
+        let [model_reason, first, second] = numbers_of(outcome.answer);
+        same_number("the answer", reason, model_reason)?;
+        same_number("the first value", self.loan.value(0), first)?;
+        same_number("the second value", self.loan.value(1), second)?;
+        for (place, model) in outcome.areas.each().into_iter().enumerate() {
+            same_area(place, &self.loan.areas[place], model)?;
+        }
+        same_desk(&self.loan.desk, &outcome.desk.bytes())?;
+        if !self.loan.guards_hold() {
+            return Err(Difference::new("the library wrote beyond what it was lent"));
+        }
+        Ok(())
+    }
+}
+
+/// What the C function returns, and its two values.
+fn numbers_of(answer: Result<Answer, Refusal>) -> [u32; 3] {
+    match answer {
+        Ok(Answer::Done) => [0, 0, 0],
+        Ok(Answer::Batch(batch)) => [0, batch, 0],
+        Ok(Answer::Value(value)) => [0, value, 0],
+        Ok(Answer::Slide { key, value }) => [0, key, value],
+        Ok(Answer::Restarted { ended, changes }) => [0, ended, changes],
+        Err(refusal) => [u32::from(refusal.number()), 0, 0],
+    }
+}

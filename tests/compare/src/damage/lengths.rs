@@ -1,0 +1,74 @@
+//! Wrong lengths: of one area, of both of a kind, of the desk and of the room for the answer's values.
+
+use super::busy::{busy, Busy};
+use super::Tried;
+use crate::beside::Beside;
+use crate::difference::{Difference, AREAS};
+use crate::library;
+use crate::loan::Loan;
+use reference::calls::Call;
+use reference::sizes::{DESK_BYTES, FEWEST_PAGES, FEWEST_SLOTS, MOST_PAGES, MOST_SLOTS};
+
+/// Every call, with numbers for which the register does it.
+pub fn every_call(busy: &Busy) -> Vec<Call> {
+    let mut calls = super::bits::sound_calls(busy).to_vec();
+    calls.extend([Call::Format, Call::Restart]);
+    calls
+}
+
+/// One area longer or shorter by a byte or a page or slot, or both of a kind at the ends of what is allowed and beyond.
+pub fn lengths_of_areas() -> Tried {
+    let mut beside = Beside::new();
+    let busy = busy();
+    let of_kind = [(0, FEWEST_PAGES, MOST_PAGES), (2, FEWEST_SLOTS, MOST_SLOTS)];
+    let mut tried: Vec<(Vec<usize>, usize)> = Vec::new();
+    for (area, (_, _, unit)) in AREAS.iter().enumerate() {
+        let length = busy.register.areas.each()[area].len();
+        tried.extend([0, length - 1, length + 1, length - unit, length + unit].map(|length| (vec![area], length)));
+    }
+    for (area, fewest, most) in of_kind {
+        let unit = AREAS[area].2;
+        let lengths =
+            [0, unit * (fewest - 1), unit * fewest, unit * fewest + 1, unit * most - 1, unit * most, unit * (most + 1)];
+        tried.extend(lengths.map(|length| (vec![area, area + 1], length)));
+    }
+    for (lent, length) in tried {
+        let mut areas = busy.register.areas.clone();
+        lent.iter().for_each(|area| areas.each_mut()[*area].resize(length, 0));
+        for made in every_call(&busy) {
+            let what = || format!("{made:?} with areas {lent:?} of {length} bytes");
+            beside.try_on(&areas, &busy.register.desk, made).map_err(|difference| difference.at(what()))?;
+        }
+    }
+    Ok(beside.tally)
+}
+
+/// A desk of other than 136 bytes, or values of other than 8: 1, and nothing at all is changed.
+pub fn lengths_of_desk_and_values() -> Tried {
+    let busy = busy();
+    let mut beside = Beside::new();
+    for (desk, values) in
+        [(0, 8), (1, 8), (135, 8), (137, 8), (272, 8), (136, 0), (136, 7), (136, 9), (136, 16), (0, 0)]
+    {
+        for made in every_call(&busy) {
+            beside.loan.set(&busy.register.areas, &busy.register.desk);
+            let mut bytes = busy.register.desk.bytes().to_vec();
+            bytes.resize(desk, 0xD5);
+            beside.loan.desk.set(&bytes);
+            beside.loan.values.set(&vec![0xEE; values]);
+            let before = everything(&beside.loan);
+            let reason = library::call(&mut beside.loan, made);
+            beside.tally.count(made, reason);
+            if reason != 1 || everything(&beside.loan) != before || !beside.loan.guards_hold() {
+                let what = format!("{made:?} with a desk of {desk} bytes and values of {values} answers {reason}, or changes something");
+                return Err(Difference::new(what));
+            }
+        }
+    }
+    assert_eq!(busy.register.desk.bytes().len(), DESK_BYTES);
+    Ok(beside.tally)
+}
+
+fn everything(loan: &Loan) -> Vec<u8> {
+    loan.areas.iter().chain([&loan.desk, &loan.values]).flat_map(|lent| lent.iter().copied()).collect()
+}

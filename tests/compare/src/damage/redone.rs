@@ -1,0 +1,75 @@
+//! Registers that no call leaves but that may be sound: a stored image, forged or not, with its changes redone and nothing
+//! undone. Batches are open that have their abort mark or are undone in part, and forged pages stand in the tree.
+
+use super::Tried;
+use crate::beside::Beside;
+use reference::bench::any::any_call;
+use reference::bench::forge::forge_image;
+use reference::bench::{run, Instrument, Random, Shape};
+use reference::calls::{redo_alone, Call};
+use reference::layout::{Areas, Desk, Pages};
+use reference::tree::slides_of;
+
+/// How many calls each register gets.
+const CALLS: usize = 12;
+
+pub fn redone_registers() -> Tried {
+    let mut beside = Beside::new();
+    let mut random = Random::new(23);
+    for seed in 41..53 {
+        for (place, image) in images_of(seed).iter().enumerate() {
+            let forged = if random.once_in(2) { forge_image(&mut random, image) } else { None };
+            let Some((mut areas, mut desk)) = redone(forged.as_ref().unwrap_or(image)) else {
+                continue;
+            };
+            for turn in 0..CALLS {
+                let made = some_call(&mut random, &areas, &desk);
+                let what = || format!("run plain {seed}, image {place}, call {turn} ({made:?})");
+                let outcome = beside.try_on(&areas, &desk, made).map_err(|difference| difference.at(what()))?;
+                (areas, desk) = (outcome.areas, outcome.desk);
+            }
+        }
+    }
+    Ok(beside.tally)
+}
+
+/// A run's stored images: those that its cuts leave, and every so many commands one more.
+fn images_of(seed: u64) -> Vec<Areas> {
+    let mut instrument = Instrument::default();
+    let mut images = Vec::new();
+    for (place, command) in run(Shape::Plain, seed, 600).commands.iter().enumerate() {
+        let was_cut = instrument.run(command).is_some_and(|event| event.was_cut);
+        if was_cut || place % 40 == 39 {
+            images.push(instrument.areas.clone());
+        }
+    }
+    images
+}
+
+/// Working areas and a desk as they are between redo and undo.
+fn redone(image: &Areas) -> Option<(Areas, Desk)> {
+    let (work, _) = redo_alone(image).ok()?;
+    let stored = work.log.last_number();
+    let areas = Areas { working_pages: work.pages.bytes(), working_log: image.stable_log.clone(), ..image.clone() };
+    Some((areas, work.open.desk(stored, stored)))
+}
+
+/// Mostly by a batch that is open, on a key that is there.
+fn some_call(random: &mut Random, areas: &Areas, desk: &Desk) -> Call {
+    let open: Vec<u32> = desk.rows.iter().map(|row| row.batch).filter(|batch| *batch != 0).collect();
+    let slides = Pages::read(&areas.working_pages).and_then(|pages| slides_of(&pages)).unwrap_or_default();
+    let (Some(batch), Some(slide)) = (random.pick(&open), random.pick(&slides)) else {
+        return if random.once_in(4) { any_call(random) } else { Call::Begin };
+    };
+    let key = slide.key.wrapping_add([0, 1, u32::MAX][random.below(3)]);
+    match random.below(9) {
+        0 => Call::Fetch { batch, key },
+        1 => Call::Next { batch, key },
+        2 | 3 => Call::Insert { batch, key, value: random.number() },
+        4 => Call::Delete { batch, key },
+        5 => Call::Commit { batch },
+        6 => Call::Abort { batch },
+        7 => Call::WriteOut { page: random.below(areas.page_count()) as u32 },
+        _ => Call::Begin,
+    }
+}

@@ -1,0 +1,48 @@
+//! What the calls answered, counted: a comparison that never met a refusal has not compared it.
+
+use crate::rules::reasons;
+use reference::bench::letter_of;
+use reference::calls::Call;
+use std::collections::BTreeMap;
+
+#[derive(Clone, Debug, Default)]
+pub struct Tally {
+    /// By the call's letter and what it returned.
+    answers: BTreeMap<(char, u32), usize>,
+}
+
+/// No register that the calls have built gives it, and no sound one.
+const NEVER_MET: (char, u32) = ('A', 19);
+
+impl Tally {
+    pub fn count(&mut self, made: Call, reason: u32) {
+        *self.answers.entry((letter_of(&made), reason)).or_default() += 1;
+    }
+
+    pub fn calls(&self) -> usize {
+        self.answers.values().sum()
+    }
+
+    pub fn add(&mut self, other: &Tally) {
+        for (answer, count) in &other.answers {
+            *self.answers.entry(*answer).or_default() += count;
+        }
+    }
+
+    /// The answers of these calls that are on 01's list and were not met.
+    pub fn missed(&self, calls: &[Call]) -> Vec<(char, u32)> {
+        let listed = calls.iter().flat_map(|call| {
+            let letter = letter_of(call);
+            reasons(*call).iter().chain(&[0]).map(move |reason| (letter, *reason))
+        });
+        listed.filter(|answer| *answer != NEVER_MET && !self.answers.contains_key(answer)).collect()
+    }
+}
+
+impl std::fmt::Display for Tally {
+    fn fmt(&self, to: &mut std::fmt::Formatter<'_>) -> std::fmt::Result {
+        let answers: Vec<String> =
+            self.answers.iter().map(|((letter, reason), count)| format!("{letter} {reason}: {count}")).collect();
+        to.write_str(&answers.join(", "))
+    }
+}

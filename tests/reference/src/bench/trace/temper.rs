@@ -1,0 +1,93 @@
+//! What kind of run a trace is: how large its registers are, how many batches it keeps open, how often trouble comes.
+
+use crate::bench::Random;
+use crate::sizes::{MOST_BATCHES, MOST_PAGES, MOST_SLOTS};
+
+#[derive(Clone, Copy, Debug, PartialEq, Eq)]
+pub enum Shape {
+    /// What demand 3 speaks of: small registers, or quiet and larger ones with trees of three levels.
+    Plain,
+    /// The same, with damage once in a while: what demand 1 speaks of.
+    Damaged,
+    /// Eight batches are open most of the time, and a ninth is asked for.
+    Crowded,
+    /// 896 pages and 16,384 slots, most of them used from the start.
+    Largest,
+}
+
+impl Shape {
+    pub const ALL: [Shape; 4] = [Shape::Plain, Shape::Damaged, Shape::Crowded, Shape::Largest];
+
+    pub fn name(self) -> &'static str {
+        match self {
+            Shape::Plain => "plain",
+            Shape::Damaged => "damaged",
+            Shape::Crowded => "crowded",
+            Shape::Largest => "largest",
+        }
+    }
+}
+
+pub struct Temper {
+    /// Whether registers are large from the start.
+    pub deep: bool,
+    /// Growth stops here.
+    pub most_pages: usize,
+    pub most_slots: usize,
+    /// Trouble comes once in so many steps.
+    pub calm: usize,
+    /// How many batches to keep open, and how many updates to leave pending in all of them.
+    pub wanted_open: usize,
+    pub wanted_pending: usize,
+    /// How many of a hundred steps begin a batch where one is wanted.
+    pub begins: usize,
+}
+
+impl Temper {
+    pub fn new(random: &mut Random, shape: Shape) -> Temper {
+        match shape {
+            Shape::Plain | Shape::Damaged => Temper::any(random),
+            Shape::Crowded => Temper::crowded(random),
+            Shape::Largest => Temper::largest(random),
+        }
+    }
+
+    /// Half of the runs are quiet and large, to reach trees of three levels; the others are of any size and temper.
+    fn any(random: &mut Random) -> Temper {
+        let deep = random.once_in(2);
+        Temper {
+            deep,
+            most_pages: if deep { random.within(160, 300) } else { [20, 40, 80, 160][random.below(4)] },
+            most_slots: if deep { 2000 } else { [100, 200, 500, 1000][random.below(4)] },
+            calm: if deep { [40, 80, 150] } else { [5, 15, 40] }[random.below(3)],
+            wanted_open: random.within(1, 4),
+            wanted_pending: if deep { random.within(6, 16) } else { random.within(2, 12) },
+            begins: 8,
+        }
+    }
+
+    /// Room for some pending updates in each of eight batches: 32 slots and 7 pages for each update.
+    fn crowded(random: &mut Random) -> Temper {
+        Temper {
+            deep: true,
+            most_pages: random.within(160, 320),
+            most_slots: random.within(700, 1600),
+            calm: [10, 20, 40][random.below(3)],
+            wanted_open: MOST_BATCHES + 1,
+            wanted_pending: random.within(10, 30),
+            begins: 30,
+        }
+    }
+
+    fn largest(random: &mut Random) -> Temper {
+        Temper {
+            deep: true,
+            most_pages: MOST_PAGES,
+            most_slots: MOST_SLOTS,
+            calm: 6,
+            wanted_open: random.within(2, MOST_BATCHES + 1),
+            wanted_pending: random.within(6, 16),
+            begins: 15,
+        }
+    }
+}
