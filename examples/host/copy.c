@@ -6,15 +6,18 @@ enum { MARK_AT = 0, PLACE_AT = 4, BYTES_AT = 8, SUM_AT = BYTES_AT + DRIVE_PLACE_
 
 static const uint8_t mark[4] = { 'D', 'z', 'k', '1' };
 
-/* CRC-32. A block that was being written when the power failed holds part of the old bytes and part of the new, or anything at all: such
- * a block passes once in four thousand million times. */
+/* CRC-32, four bits at a time. A block that was being written when the power failed holds part of the old bytes and part of the new, or
+ * anything at all: such a block passes once in four thousand million times. */
 static uint32_t sum_of(const uint8_t *bytes, size_t length)
 {
+    static const uint32_t of_four_bits[16] = {
+        0x00000000, 0x1DB71064, 0x3B6E20C8, 0x26D930AC, 0x76DC4190, 0x6B6B51F4, 0x4DB26158, 0x5005713C,
+        0xEDB88320, 0xF00F9344, 0xD6D6A3E8, 0xCB61B38C, 0x9B64C2B0, 0x86D3D2D4, 0xA00AE278, 0xBDBDF21C,
+    };
     uint32_t sum = 0xFFFFFFFF;
     for (size_t i = 0; i < length; i++) {
-        sum ^= bytes[i];
-        for (int bit = 0; bit < 8; bit++)
-            sum = sum >> 1 ^ (sum & 1 ? 0xEDB88320 : 0);
+        sum = sum >> 4 ^ of_four_bits[(sum ^ bytes[i]) & 15];
+        sum = sum >> 4 ^ of_four_bits[(sum ^ bytes[i] >> 4) & 15];
     }
     return ~sum;
 }

@@ -116,6 +116,12 @@ static void flush_name(const char *path)
 
 /* What a killed program wrote is read back, flushed or not. It is flushed before anyone reads it: else the power could fail and take away
  * what this program has already acted on. */
+static void flush_found(struct drive *d, const char *path)
+{
+    drive_flush(d);
+    flush_name(path);
+}
+
 int drive_open(struct drive *d, const char *path)
 {
     d->file = open(path, O_RDWR);
@@ -124,8 +130,7 @@ int drive_open(struct drive *d, const char *path)
     if (d->file < 0)
         drive_fail(path);
     lock(d);
-    drive_flush(d);
-    flush_name(path);
+    flush_found(d, path);
     return 1;
 }
 
