@@ -12,9 +12,14 @@ library_made() {
     }
 }
 
+# What a program over the library is linked with. Another library may be written in another language, and need the library of mathematics.
+linked() {
+    echo "$library" ${CAPI_LIBRARY:+-lm}
+}
+
 # c_program PROGRAM SOURCE_OR_FLAG..: a program over the library. Libraries that it needs besides are named after its sources.
 c_program() {
     local program=$1
     shift
-    cc -std=c11 -O2 -Wall -Wextra -Werror -Iinclude -Itests/c "$@" "$library" ${CAPI_LIBRARY:+-lm} -o "$program"
+    cc -std=c11 -O2 -Wall -Wextra -Werror -Iinclude -Itests/c "$@" $(linked) -o "$program"
 }

@@ -1,0 +1,31 @@
+/* A host: one register on one drive. Each call returns what the register's own call returns (donzhikar.h), and only once everything that
+ * it stored is on the drive. The answer's two values are in `values`, for donzhikar_value. */
+#ifndef HOST_H
+#define HOST_H
+
+#include "donzhikar.h"
+#include "image.h"
+
+struct host {
+    struct image image;
+    uint8_t *work_pages, *work_log;
+    uint8_t desk[DONZHIKAR_DESK_BYTES];
+    uint8_t values[DONZHIKAR_VALUES_BYTES];
+};
+
+/* Opens the drive of this name, or makes one with a newly formatted register, and restarts the register. A drive that has fewer pages or
+ * slots than asked for grows first. Returns what format or restart returns: after restart's 17 or 18, start again and ask for more. */
+uint32_t host_start(struct host *h, const char *path, size_t pages, size_t slots);
+
+void host_stop(struct host *h);
+
+uint32_t host_begin(struct host *h);
+uint32_t host_fetch(struct host *h, uint32_t batch, uint32_t key);
+uint32_t host_next(struct host *h, uint32_t batch, uint32_t key);
+uint32_t host_insert(struct host *h, uint32_t batch, uint32_t key, uint32_t value);
+uint32_t host_delete(struct host *h, uint32_t batch, uint32_t key);
+uint32_t host_commit(struct host *h, uint32_t batch);
+uint32_t host_abort(struct host *h, uint32_t batch);
+uint32_t host_write_out(struct host *h, uint32_t page);
+
+#endif

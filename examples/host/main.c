@@ -1,0 +1,211 @@
+/* A register on a drive, worked by commands on standard input, one a line:
+ *
+ *   open CASE  file CASE KEY VALUE  remove CASE KEY  find CASE KEY  commit CASE  cancel CASE  write-out PAGE  list
+ *
+ * Numbers are decimal and chosen by the user, those of cases too. Each command is answered by itself, a colon, 0 and any answer, or the
+ * refusal's number; `list` prints a line `slide KEY VALUE` for each slide first. A line that is no command, or opens an open case, prints `?`.
+ * An answer is printed when everything that it tells is on the drive, so it may be relied on.
+ *
+ * Usage: host FILE PAGES SLOTS. A new FILE gets so many pages and slots, and one that has fewer grows. */
+#include "host.h"
+#include <stdio.h>
+#include <stdlib.h>
+#include <string.h>
+
+enum { LINE = 256, CASES = 8, MOST_NUMBERS = 3 };
+
+/* The open cases: each has a batch of the register. 0 is no batch. */
+struct desk_case {
+    uint32_t name, batch;
+};
+
+struct bench {
+    struct host host;
+    struct desk_case cases[CASES];
+};
+
+/* ---- cases */
+
+static struct desk_case *case_named(struct bench *b, uint32_t name)
+{
+    for (int i = 0; i < CASES; i++)
+        if (b->cases[i].batch != 0 && b->cases[i].name == name)
+            return &b->cases[i];
+    return NULL;
+}
+
+/* The case's batch, or 0, which the register refuses (12). */
+static uint32_t batch_of(struct bench *b, uint32_t name)
+{
+    struct desk_case *found = case_named(b, name);
+    return found == NULL ? 0 : found->batch;
+}
+
+static void close_case(struct bench *b, uint32_t name, uint32_t reason)
+{
+    struct desk_case *found = case_named(b, name);
+    if (reason == DONZHIKAR_DONE && found != NULL)
+        found->batch = 0;
+}
+
+/* ---- commands: each returns the register's answer */
+
+static uint32_t open_case(struct bench *b, const uint32_t *n)
+{
+    uint32_t reason = host_begin(&b->host);
+    for (int i = 0; i < CASES && reason == DONZHIKAR_DONE; i++)
+        if (b->cases[i].batch == 0) {
+            b->cases[i] = (struct desk_case){ n[0], donzhikar_value(b->host.values, 0) };
+            break;
+        }
+    return reason;
+}
+
+static uint32_t file_slide(struct bench *b, const uint32_t *n)
+{
+    return host_insert(&b->host, batch_of(b, n[0]), n[1], n[2]);
+}
+
+static uint32_t remove_slide(struct bench *b, const uint32_t *n)
+{
+    return host_delete(&b->host, batch_of(b, n[0]), n[1]);
+}
+
+static uint32_t find_slide(struct bench *b, const uint32_t *n)
+{
+    return host_fetch(&b->host, batch_of(b, n[0]), n[1]);
+}
+
+static uint32_t commit_case(struct bench *b, const uint32_t *n)
+{
+    uint32_t reason = host_commit(&b->host, batch_of(b, n[0]));
+    close_case(b, n[0], reason);
+    return reason;
+}
+
+static uint32_t cancel_case(struct bench *b, const uint32_t *n)
+{
+    uint32_t reason = host_abort(&b->host, batch_of(b, n[0]));
+    close_case(b, n[0], reason);
+    return reason;
+}
+
+static uint32_t write_out_page(struct bench *b, const uint32_t *n)
+{
+    return host_write_out(&b->host, n[0]);
+}
+
+static void print_slide(uint32_t key, uint32_t value)
+{
+    printf("slide %u %u\n", (unsigned)key, (unsigned)value);
+}
+
+/* All slides by rising key, seen by a batch of their own. */
+static uint32_t print_slides(struct host *h, uint32_t batch)
+{
+    uint32_t reason = host_fetch(h, batch, 0);
+    if (reason == DONZHIKAR_DONE)
+        print_slide(0, donzhikar_value(h->values, 0));
+    if (reason == DONZHIKAR_DONE || reason == DONZHIKAR_ABSENT)
+        reason = host_next(h, batch, 0);
+    while (reason == DONZHIKAR_DONE) {
+        uint32_t key = donzhikar_value(h->values, 0);
+        print_slide(key, donzhikar_value(h->values, 1));
+        reason = host_next(h, batch, key);
+    }
+    return reason == DONZHIKAR_ABSENT ? DONZHIKAR_DONE : reason;
+}
+
+static uint32_t list_slides(struct bench *b, const uint32_t *n)
+{
+    (void)n;
+    uint32_t reason = host_begin(&b->host);
+    if (reason != DONZHIKAR_DONE)
+        return reason;
+    uint32_t batch = donzhikar_value(b->host.values, 0);
+    reason = print_slides(&b->host, batch);
+    host_abort(&b->host, batch);
+    return reason;
+}
+
+/* ---- lines */
+
+static const struct command {
+    const char *name;
+    int numbers, answers;
+    uint32_t (*run)(struct bench *b, const uint32_t *n);
+} commands[] = {
+    { "open", 1, 0, open_case },     { "file", 3, 0, file_slide },     { "remove", 2, 0, remove_slide },
+    { "find", 2, 1, find_slide },    { "commit", 1, 0, commit_case },  { "cancel", 1, 0, cancel_case },
+    { "list", 0, 0, list_slides },   { "write-out", 1, 0, write_out_page },
+};
+
+/* Reads one number of digits alone, and moves on behind it. Returns 0 where there is none, or it has more than 32 bits. */
+static int read_number(const char **at, uint32_t *number)
+{
+    uint64_t sum = 0;
+    const char *start = *at;
+    while (**at >= '0' && **at <= '9' && sum <= UINT32_MAX)
+        sum = sum * 10 + (uint64_t)(*(*at)++ - '0');
+    *number = (uint32_t)sum;
+    return *at > start && sum <= UINT32_MAX;
+}
+
+/* The command of a line, and its numbers, or NULL. */
+static const struct command *read_command(const char *line, uint32_t numbers[MOST_NUMBERS])
+{
+    size_t length = strcspn(line, " ");
+    const char *at = line + length;
+    for (size_t i = 0; i < sizeof commands / sizeof commands[0]; i++) {
+        const struct command *command = &commands[i];
+        if (strlen(command->name) != length || memcmp(command->name, line, length) != 0)
+            continue;
+        for (int n = 0; n < command->numbers; n++)
+            if (*at++ != ' ' || !read_number(&at, &numbers[n]))
+                return NULL;
+        return *at == '\0' ? command : NULL;
+    }
+    return NULL;
+}
+
+static void answer(const struct bench *b, const char *line, uint32_t reason, int answers)
+{
+    printf("%s: %u", line, (unsigned)reason);
+    for (int i = 0; i < answers && reason == DONZHIKAR_DONE; i++)
+        printf(" %u", (unsigned)donzhikar_value(b->host.values, i));
+    printf("\n");
+    fflush(stdout);
+}
+
+static void obey(struct bench *b, const char *line)
+{
+    uint32_t numbers[MOST_NUMBERS];
+    const struct command *command = read_command(line, numbers);
+    if (command == NULL || (command->run == open_case && case_named(b, numbers[0]) != NULL)) {
+        printf("?\n");
+        fflush(stdout);
+        return;
+    }
+    uint32_t reason = command->run(b, numbers);
+    answer(b, line, reason, command->answers);
+}
+
+int main(int count, char **words)
+{
+    static struct bench bench;
+    char line[LINE];
+    if (count != 4) {
+        fprintf(stderr, "usage: %s FILE PAGES SLOTS\n", words[0]);
+        return 1;
+    }
+    uint32_t reason = host_start(&bench.host, words[1], strtoul(words[2], NULL, 10), strtoul(words[3], NULL, 10));
+    answer(&bench, "start", reason, 2);
+    if (reason != DONZHIKAR_DONE)
+        return 1;
+    while (fgets(line, sizeof line, stdin) != NULL) {
+        line[strcspn(line, "\n")] = '\0';
+        obey(&bench, line);
+    }
+    host_stop(&bench.host);
+    return 0;
+}

@@ -1,0 +1,32 @@
+"""Edits: small wrong changes of one file, kept as text.
+
+An edit has lines `NAME: TEXT`: `file: PATH` is the file; `old: TEXT` and `new: TEXT`, which may be repeated in pairs, are the change, where
+the old text stands once in the file. Other names are for those who use the edit."""
+import os
+
+
+def read_edit(path):
+    """The edit's lines by name, and under `pairs` the old and the new texts."""
+    edit = {'pairs': []}
+    old = None
+    for line in open(path, encoding='utf-8'):
+        name, _, text = line.rstrip('\n').partition(': ')
+        if name == 'old':
+            old = text
+        elif name == 'new' or line.rstrip('\n') == 'new:':
+            edit['pairs'].append((old, text))
+        else:
+            edit[name] = text
+    return edit
+
+
+def apply_edit(edit, copy):
+    """Changes the file in the copy, or says what is wrong with the edit."""
+    path = os.path.join(copy, edit['file'])
+    text = open(path, encoding='utf-8').read()
+    for old, new in edit['pairs']:
+        if text.count(old) != 1:
+            return f'the old text stands {text.count(old)} times in {edit["file"]}'
+        text = text.replace(old, new)
+    open(path, 'w', encoding='utf-8').write(text)
+    return None

@@ -1,0 +1,62 @@
+/* The example's drive without the register: prints what the places of a drive hold, then stores numbers in them, drawn from a seed, and
+ * reports each. Usage: places FILE SEED FIRST COUNT, where FIRST is the first number stored and COUNT how many there are. */
+#include "drive.h"
+#include <stdio.h>
+#include <stdlib.h>
+#include <string.h>
+
+enum { PLACES = 3, NUMBERS = DRIVE_PLACE_BYTES / 4 };
+
+/* A place is full of one number, so that parts of two stores never look like one. */
+static void store(struct drive *d, uint32_t place, uint32_t number, void (*put)(struct drive *, uint32_t, const uint8_t *))
+{
+    uint8_t bytes[DRIVE_PLACE_BYTES];
+    for (int i = 0; i < NUMBERS; i++)
+        memcpy(bytes + 4 * i, &number, 4);
+    put(d, place, bytes);
+}
+
+static void say(const char *what, uint32_t place, uint32_t number)
+{
+    printf("%s %u %u\n", what, (unsigned)place, (unsigned)number);
+    fflush(stdout);
+}
+
+static void show(struct drive *d, uint32_t place)
+{
+    uint8_t bytes[DRIVE_PLACE_BYTES];
+    uint32_t first, number;
+    drive_read(d, place, bytes);
+    memcpy(&first, bytes, 4);
+    for (int i = 1; i < NUMBERS; i++) {
+        memcpy(&number, bytes + 4 * i, 4);
+        if (number != first)
+            say("torn", place, number);
+    }
+    say("holds", place, first);
+}
+
+int main(int count, char **words)
+{
+    struct drive d;
+    if (count != 5)
+        return 1;
+    uint32_t drawn = (uint32_t)strtoul(words[2], NULL, 10), first = (uint32_t)strtoul(words[3], NULL, 10);
+    if (!drive_open(&d, words[1])) {
+        drive_new(&d, words[1]);
+        for (uint32_t place = 0; place < PLACES; place++)
+            store(&d, place, 0, drive_fill);
+        drive_name(&d, words[1]);
+    }
+    for (uint32_t place = 0; place < PLACES; place++)
+        show(&d, place);
+    for (uint32_t i = 0; i < (uint32_t)strtoul(words[4], NULL, 10); i++) {
+        drawn = drawn * 1664525 + 1013904223;
+        uint32_t place = (drawn >> 16) % PLACES;
+        say("storing", place, first + i);
+        store(&d, place, first + i, drive_store);
+        say("stored", place, first + i);
+    }
+    drive_close(&d);
+    return 0;
+}

@@ -1,0 +1,141 @@
+"""The plug pulled after every event of a piece of work on the example host, and again while it recovers."""
+import copy
+import os
+from random import Random
+
+from plug.book import CASE, Book
+from plug.programs import Plug, forget, run
+from plug.work import Work
+
+PAGES, SLOTS = 72, 512
+BLOCK = 4096
+
+
+class Register:
+    """A register's file under trial, and the side files of trial.c."""
+
+    def __init__(self, host, folder, pages=PAGES, slots=SLOTS):
+        self.host = host
+        self.pages, self.slots = pages, slots
+        self.file = os.path.join(folder, 'register')
+        self.side = os.path.join(folder, 'side')
+
+    def forget(self):
+        forget(self.file, self.side)
+
+    def run(self, commands, plug=None):
+        return run(self.host, (self.file, self.pages, self.slots), commands, self.side, plug)
+
+    def events(self):
+        """How many events the last run to its end had."""
+        return int(open(self.side + '.events').read())
+
+    def image(self):
+        """The file's runs of blocks that are not zeros, each with its place. The rest is a hole."""
+        runs = []
+        with open(self.file, 'rb') as file:
+            for number, block in enumerate(iter(lambda: file.read(BLOCK), b'')):
+                place = number * BLOCK
+                if any(block) and runs and runs[-1][0] + len(runs[-1][1]) == place:
+                    runs[-1][1].extend(block)
+                elif any(block):
+                    runs.append((place, bytearray(block)))
+        return runs
+
+    def put(self, image):
+        self.forget()
+        with open(self.file, 'wb') as file:
+            for place, blocks in image:
+                file.seek(place)
+                file.write(blocks)
+
+
+def judged(book, run):
+    """What is wrong after a start to its end, or None."""
+    if run.error:
+        return run.error
+    if not (run.start() or '').startswith('0 '):
+        return f'the start was refused: {run.start()}'
+    if run.slides() is None:
+        return f'the list was refused: {run.lines[-1]}'
+    return book.settle(run.slides())
+
+
+def recovered(register, book, random):
+    """Up to three more deaths, while the register comes back; then it must be there. Returns what is wrong, or None."""
+    for _ in range(random.randrange(4)):
+        run = register.run(['list'], Plug(random.randint(1, 40), random.choice(('kill', 'power')), random.randrange(1 << 30)))
+        wrong = None if run.died else judged(book, run)
+        if wrong:
+            return wrong
+    return judged(book, register.run(['list']))
+
+
+def pulled(register, book, commands, plug, random):
+    """The plug is pulled during these commands. Returns whether it came to that, and what is wrong afterwards, or None."""
+    book = copy.deepcopy(book)
+    run = register.run(commands, plug)
+    answers = run.answers(commands)
+    for command, answer in answers:
+        book.take(command, answer)
+    if not run.died:
+        return False, run.error or None
+    book.cut(commands[len(answers)] if len(answers) < len(commands) else None)
+    return True, recovered(register, book, random)
+
+
+def worked(register, seed):
+    """A register with a tree of several pages, its book, and further work."""
+    book = Book()
+    work = Work(Random(seed), keys=45, pages=PAGES, open_at_most=3, slides_at_most=3)
+    commands = work.commands(90, removing=0.1)
+    register.forget()
+    for command, answer in register.run(commands).answers(commands):
+        book.take(command, answer)
+    book.cut(None)
+    wrong = judged(book, register.run(['list']))
+    if wrong:
+        raise ValueError(wrong)
+    return book, register.image(), [*work.each_page(), *work.commands(30, removing=0.5)]
+
+
+def each_event(register, book, image, commands, first=1, stride=1, seeds=1):
+    """The plug pulled after one event of a run and then, from the same start, after another, up to the run's end, by kill and by power
+    failure. Gives for each what is wrong, or None. Without an image the register is made anew each time."""
+    for how, seed in (('kill', 0), *(('power', seed) for seed in range(seeds))):
+        after, died = first, True
+        while died:
+            random = Random(f'{how} {seed} {after}')
+            register.put(image) if image else register.forget()
+            died, wrong = pulled(register, book, commands, Plug(after, how, random.randrange(1 << 30)), random)
+            if died or wrong:
+                yield f'{how} after event {after}', wrong
+            after += stride
+
+
+def working(host, folder):
+    """During work: several cases open, commits, write-outs."""
+    register = Register(host, folder)
+    book, image, commands = worked(register, seed=1)
+    yield from each_event(register, book, image, commands)
+
+
+def growing(host, folder):
+    """While the areas grow by a few slots."""
+    register = Register(host, folder)
+    book, image, _ = worked(register, seed=2)
+    register.slots += 4
+    yield from each_event(register, book, image, ['list'], seeds=4)
+
+
+def making(host, folder):
+    """While a new register is made and its first case filed: here and there while it is filled, and at each of the last events."""
+    register = Register(host, folder, pages=16, slots=128)
+    commands = ['open 1', f'file 1 5 {CASE}', 'commit 1']
+    register.run(commands)
+    total = register.events()
+    yield from each_event(register, Book(), None, commands, stride=29)
+    yield from each_event(register, Book(), None, commands, first=total - 60)
+
+
+TRIALS = {'working': working, 'growing': growing, 'making': making}
