@@ -1,10 +1,11 @@
 //! The model as a program: reads standard input, writes standard output.
 
-use reference::bench::{damaged_trace, explain, run_vectors, trace, Command, Console};
+use reference::bench::{explain, run, run_vectors, Console, Shape};
 use std::io::{self, BufRead, Read, Write};
 use std::process::ExitCode;
 
-const USAGE: &str = "usage: reference vectors | console | explain | trace SEED CALLS | damage SEED CALLS";
+const USAGE: &str =
+    "usage: reference vectors | console | explain | trace SEED CALLS | damage SEED CALLS | crowded SEED CALLS";
 
 fn main() -> ExitCode {
     let arguments: Vec<String> = std::env::args().skip(1).collect();
@@ -13,8 +14,9 @@ fn main() -> ExitCode {
         ["vectors"] => whole_input(run_vectors),
         ["explain"] => whole_input(explain),
         ["console"] => console().map_err(|error| error.to_string()),
-        ["trace", seed, calls] => print_trace(trace, seed, calls),
-        ["damage", seed, calls] => print_trace(damaged_trace, seed, calls),
+        ["trace", seed, calls] => print_trace(Shape::Plain, seed, calls),
+        ["damage", seed, calls] => print_trace(Shape::Damaged, seed, calls),
+        ["crowded", seed, calls] => print_trace(Shape::Crowded, seed, calls),
         _ => Err(USAGE.to_string()),
     };
     match done {
@@ -42,10 +44,10 @@ fn console() -> io::Result<()> {
     Ok(())
 }
 
-fn print_trace(make: fn(u64, usize) -> Vec<Command>, seed: &str, calls: &str) -> Result<(), String> {
+fn print_trace(shape: Shape, seed: &str, calls: &str) -> Result<(), String> {
     let (Ok(seed), Ok(calls)) = (seed.parse(), calls.parse()) else {
         return Err(USAGE.to_string());
     };
-    let lines: String = make(seed, calls).iter().map(|command| format!("{command}\n")).collect();
+    let lines: String = run(shape, seed, calls).commands.iter().map(|command| format!("{command}\n")).collect();
     io::stdout().write_all(lines.as_bytes()).map_err(|error| error.to_string())
 }

@@ -1,6 +1,6 @@
 //! Turned bits: every single one of a stored image, for restart; those of the desk and of all areas, for the other calls.
 
-use super::busy::{busy, Busy};
+use super::busy::{busy, roomy, Busy};
 use super::Tried;
 use crate::beside::Beside;
 use crate::difference::{Difference, AREAS};
@@ -23,7 +23,7 @@ pub fn bits_of_the_image() -> Tried {
 /// Every fifth bit of each area, the calls in turn. Five has no part in common with 8, so each place in a byte gets its turn.
 pub fn bits_for_other_calls() -> Tried {
     let mut beside = Beside::new();
-    let busy = busy();
+    let busy = roomy();
     let calls = sound_calls(&busy);
     let mut areas = busy.register.areas;
     for area in 0..AREAS.len() {
@@ -37,7 +37,7 @@ pub fn bits_for_other_calls() -> Tried {
 /// Every bit of the desk, for every call that looks at it.
 pub fn bits_of_the_desk() -> Tried {
     let mut beside = Beside::new();
-    let busy = busy();
+    let busy = roomy();
     let calls = sound_calls(&busy);
     for bit in 0..8 * DESK_BYTES {
         let mut bytes = busy.register.desk.bytes();
@@ -67,10 +67,10 @@ fn try_bit(
     tried.map(drop).map_err(|difference| difference.at(what()))
 }
 
-/// The calls that ask for sound areas, with numbers for which the register, undamaged, does them.
+/// The calls that ask for sound areas, with numbers for which the roomy register, undamaged, does them.
 pub fn sound_calls(busy: &Busy) -> [Call; 8] {
     let (batch, other) = (busy.first, busy.second);
-    [
+    let calls = [
         Call::Begin,
         Call::Fetch { batch, key: 70 },
         Call::Next { batch: other, key: 70 },
@@ -79,5 +79,8 @@ pub fn sound_calls(busy: &Busy) -> [Call; 8] {
         Call::Commit { batch },
         Call::Abort { batch: other },
         Call::WriteOut { page: 1 },
-    ]
+    ];
+    let refused = calls.iter().find(|call| busy.register.outcome_of(**call).answer.is_err());
+    assert!(refused.is_none(), "{refused:?} is refused without damage");
+    calls
 }

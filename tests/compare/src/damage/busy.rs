@@ -8,9 +8,9 @@ use reference::log::Log;
 pub const PAGES: usize = 28;
 pub const SLOTS: usize = 208;
 
-/// The two batches that are open, and have one update pending each.
 pub struct Busy {
     pub register: Instrument,
+    /// The two batches that are open, with one update pending each.
     pub first: u32,
     pub second: u32,
 }
@@ -27,6 +27,13 @@ pub fn busy() -> Busy {
     make(&mut register, Call::WriteOut { page: 0 });
     assert_eq!(kinds(&register), Kind::ALL, "every kind of record");
     Busy { register, first, second }
+}
+
+/// The same in longer areas, with room for one update more.
+pub fn roomy() -> Busy {
+    let mut busy = busy();
+    busy.register.areas = busy.register.areas.grown(PAGES + 8, SLOTS + 40);
+    busy
 }
 
 /// Three leaves under a root: two splits, a raise and a link.

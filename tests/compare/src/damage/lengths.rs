@@ -1,16 +1,16 @@
 //! Wrong lengths: of one area, of both of a kind, of the desk and of the room for the answer's values.
 
-use super::busy::{busy, Busy};
+use super::busy::{roomy, Busy};
 use super::Tried;
 use crate::beside::Beside;
 use crate::difference::{Difference, AREAS};
 use crate::library;
-use crate::loan::Loan;
+use crate::loan::{Loan, UNWRITTEN};
 use reference::calls::Call;
-use reference::sizes::{DESK_BYTES, FEWEST_PAGES, FEWEST_SLOTS, MOST_PAGES, MOST_SLOTS};
+use reference::sizes::{FEWEST_PAGES, FEWEST_SLOTS, MOST_PAGES, MOST_SLOTS};
 
 /// Every call, with numbers for which the register does it.
-pub fn every_call(busy: &Busy) -> Vec<Call> {
+fn every_call(busy: &Busy) -> Vec<Call> {
     let mut calls = super::bits::sound_calls(busy).to_vec();
     calls.extend([Call::Format, Call::Restart]);
     calls
@@ -19,7 +19,7 @@ pub fn every_call(busy: &Busy) -> Vec<Call> {
 /// One area longer or shorter by a byte or a page or slot, or both of a kind at the ends of what is allowed and beyond.
 pub fn lengths_of_areas() -> Tried {
     let mut beside = Beside::new();
-    let busy = busy();
+    let busy = roomy();
     let of_kind = [(0, FEWEST_PAGES, MOST_PAGES), (2, FEWEST_SLOTS, MOST_SLOTS)];
     let mut tried: Vec<(Vec<usize>, usize)> = Vec::new();
     for (area, (_, _, unit)) in AREAS.iter().enumerate() {
@@ -45,28 +45,36 @@ pub fn lengths_of_areas() -> Tried {
 
 /// A desk of other than 136 bytes, or values of other than 8: 1, and nothing at all is changed.
 pub fn lengths_of_desk_and_values() -> Tried {
-    let busy = busy();
+    const LENGTHS: [(usize, usize); 10] =
+        [(0, 8), (1, 8), (135, 8), (137, 8), (272, 8), (136, 0), (136, 7), (136, 9), (136, 16), (0, 0)];
     let mut beside = Beside::new();
-    for (desk, values) in
-        [(0, 8), (1, 8), (135, 8), (137, 8), (272, 8), (136, 0), (136, 7), (136, 9), (136, 16), (0, 0)]
-    {
+    let busy = roomy();
+    for (desk, values) in LENGTHS {
         for made in every_call(&busy) {
             beside.loan.set(&busy.register.areas, &busy.register.desk);
             let mut bytes = busy.register.desk.bytes().to_vec();
-            bytes.resize(desk, 0xD5);
+            bytes.resize(desk, UNWRITTEN);
             beside.loan.desk.set(&bytes);
-            beside.loan.values.set(&vec![0xEE; values]);
-            let before = everything(&beside.loan);
-            let reason = library::call(&mut beside.loan, made);
-            beside.tally.count(made, reason);
-            if reason != 1 || everything(&beside.loan) != before || !beside.loan.guards_hold() {
-                let what = format!("{made:?} with a desk of {desk} bytes and values of {values} answers {reason}, or changes something");
-                return Err(Difference::new(what));
-            }
+            beside.loan.values.set(&vec![UNWRITTEN; values]);
+            let what = || format!("{made:?} with a desk of {desk} bytes and values of {values}");
+            changes_nothing(&mut beside, made).map_err(|difference| difference.at(what()))?;
         }
     }
-    assert_eq!(busy.register.desk.bytes().len(), DESK_BYTES);
     Ok(beside.tally)
+}
+
+/// The call answers 1 and leaves every byte. The model has no such lengths: its desk is a value, and so is its answer.
+fn changes_nothing(beside: &mut Beside, made: Call) -> Result<(), Difference> {
+    let before = everything(&beside.loan);
+    let reason = library::call(&mut beside.loan, made);
+    beside.tally.count(made, reason);
+    if reason != 1 {
+        return Err(Difference::new(format!("{reason} by the library, and not 1")));
+    }
+    if everything(&beside.loan) != before || !beside.loan.guards_hold() {
+        return Err(Difference::new("the library changes something"));
+    }
+    Ok(())
 }
 
 fn everything(loan: &Loan) -> Vec<u8> {

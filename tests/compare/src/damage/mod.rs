@@ -31,7 +31,7 @@ fn restart(beside: &mut Beside, areas: &Areas, what: impl Display) -> Result<Out
     beside.try_on(areas, &Desk::empty(), Call::Restart).map_err(|difference| difference.at(what))
 }
 
-/// "A slot, or a page": so many bytes at a place of an area.
+/// The page or slot at a place of an area.
 fn part(area: &[u8], size: usize, place: usize) -> Vec<u8> {
     area[size * place..][..size].to_vec()
 }

@@ -87,17 +87,17 @@ pub fn pages_at_wrong_places() -> Tried {
         for second in 0..PAGES {
             let (one, other) = (part(&stored, PAGE_BYTES, first), part(&stored, PAGE_BYTES, second));
             put(&mut image.areas.stable_pages, PAGE_BYTES, second, &one);
-            try_on_all(&mut image, &format!("page {first} also at {second}"))?;
+            restart_and_format(&mut image, &format!("page {first} also at {second}"))?;
             put(&mut image.areas.stable_pages, PAGE_BYTES, first, &other);
-            try_on_all(&mut image, &format!("pages {first} and {second} swapped"))?;
+            restart_and_format(&mut image, &format!("pages {first} and {second} swapped"))?;
             image.areas.stable_pages.copy_from_slice(&stored);
         }
         for half in (8..PAGE_BYTES).step_by(8) {
             let new = part(&image.history[last], PAGE_BYTES, first);
             image.areas.stable_pages[PAGE_BYTES * first..][..half].copy_from_slice(&new[..half]);
-            try_on_all(&mut image, &format!("page {first} new in its first {half} bytes"))?;
+            restart_and_format(&mut image, &format!("page {first} new in its first {half} bytes"))?;
             image.areas.stable_pages[PAGE_BYTES * first..][..half].fill(0);
-            try_on_all(&mut image, &format!("page {first} zero in its first {half} bytes"))?;
+            restart_and_format(&mut image, &format!("page {first} zero in its first {half} bytes"))?;
             image.areas.stable_pages.copy_from_slice(&stored);
         }
     }
@@ -105,7 +105,7 @@ pub fn pages_at_wrong_places() -> Tried {
 }
 
 /// A restart, and a format of the same areas, which does not look at what they held.
-fn try_on_all(image: &mut Image, what: &str) -> Result<(), Difference> {
+fn restart_and_format(image: &mut Image, what: &str) -> Result<(), Difference> {
     restart(&mut image.beside, &image.areas, what)?;
     let formatted = image.beside.try_on(&image.areas, &Desk::empty(), Call::Format);
     formatted.map(drop).map_err(|difference| difference.at(what))
