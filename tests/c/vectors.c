@@ -5,7 +5,7 @@
 #include <stdlib.h>
 #include <string.h>
 
-enum { LINE = 256, MOST_NUMBERS = 4 };
+enum { MOST_NUMBERS = 4 };
 
 struct command {
     char letter;
@@ -31,6 +31,40 @@ static uint64_t hash_of(const uint8_t *bytes, size_t length)
     return hash;
 }
 
+/* The next line, of any length, without its end. Returns 0 where there is none. */
+static int read_line(struct area *line)
+{
+    for (size_t used = 0;; used++) {
+        if (used == line->length) {
+            line->length = 2 * line->length + 64;
+            line->bytes = realloc(line->bytes, line->length);
+            if (line->bytes == NULL)
+                exit(2);
+        }
+        int byte = getchar();
+        if (byte == EOF || byte == '\n') {
+            line->bytes[used] = '\0';
+            return byte != EOF || used > 0;
+        }
+        /* A zero byte is in no command, and would end the line for C. */
+        line->bytes[used] = byte == '\0' ? '?' : (uint8_t)byte;
+    }
+}
+
+/* A number of digits alone, and what follows it. Returns NULL where there is none, or it has more than 64 bits. */
+static const char *read_number(const char *at, uint64_t *number)
+{
+    if (*at < '0' || *at > '9')
+        return NULL;
+    for (*number = 0; *at >= '0' && *at <= '9'; at++) {
+        uint64_t digit = (uint64_t)(*at - '0');
+        if (*number > (UINT64_MAX - digit) / 10)
+            return NULL;
+        *number = *number * 10 + digit;
+    }
+    return at;
+}
+
 /* A letter and its numbers, one space between, digits only. Returns 0 where the line is none. */
 static int read_command(const char *line, struct command *to)
 {
@@ -38,16 +72,9 @@ static int read_command(const char *line, struct command *to)
     if (*at == '\0' || *at == ' ')
         return 0;
     to->letter = *at++;
-    for (to->count = 0; *at == ' '; to->count++) {
-        at++;
-        if (*at < '0' || *at > '9' || to->count == MOST_NUMBERS)
-            return 0;
-        uint64_t number = 0;
-        while (*at >= '0' && *at <= '9')
-            number = number * 10 + (uint64_t)(*at++ - '0');
-        to->numbers[to->count] = number;
-    }
-    return *at == '\0';
+    for (to->count = 0; at != NULL && *at == ' ' && to->count < MOST_NUMBERS; to->count++)
+        at = read_number(at + 1, &to->numbers[to->count]);
+    return at != NULL && *at == '\0';
 }
 
 static void copy_areas(struct area to[AREAS], const struct area from[AREAS])
@@ -116,7 +143,7 @@ static int run(struct instrument *in, const struct command *command, int64_t *cu
     if (command->letter == 'P')
         return damage(in, command);
     if (command->letter == 'K' && command->count == 1) {
-        *cut = (int64_t)command->numbers[0];
+        *cut = command->numbers[0] > INT64_MAX ? INT64_MAX : (int64_t)command->numbers[0];
         return 1;
     }
     if (numbers_of(command->letter) != command->count)
@@ -136,19 +163,19 @@ int main(void)
     static struct instrument in;
     struct area before[AREAS] = { { NULL, 0 }, { NULL, 0 }, { NULL, 0 }, { NULL, 0 } };
     const size_t none[AREAS] = { 0, 0, 0, 0 };
-    char line[LINE];
+    struct area line = { NULL, 0 };
     struct command command;
     int64_t cut = -1;
     lend(&in, none);
-    for (unsigned number = 1; fgets(line, sizeof line, stdin) != NULL; number++) {
-        line[strcspn(line, "\n")] = '\0';
-        if (!read_command(line, &command) || !run(&in, &command, &cut, before)) {
+    for (unsigned number = 1; read_line(&line); number++) {
+        if (!read_command((const char *)line.bytes, &command) || !run(&in, &command, &cut, before)) {
             fprintf(stderr, "line %u is no command\n", number);
             return 1;
         }
     }
     for (int i = 0; i < AREAS; i++)
         free(before[i].bytes);
+    free(line.bytes);
     give_back(&in);
     return 0;
 }
