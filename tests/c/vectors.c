@@ -168,6 +168,8 @@ int main(void)
     int64_t cut = -1;
     lend(&in, none);
     for (unsigned number = 1; read_line(&line); number++) {
+        if (line.bytes[0] == '\0')
+            continue;
         if (!read_command((const char *)line.bytes, &command) || !run(&in, &command, &cut, before)) {
             fprintf(stderr, "line %u is no command\n", number);
             return 1;
