@@ -93,6 +93,7 @@
  * areas are copied to such a device, a slot across two sectors is two writes, and the device alone does not give "whole or not at all".
  * The host then keeps a journal, or a checksum by which it takes back half a slot, or lends battery-backed memory, where the rule for each
  * store is kept otherwise. It is enough to write the changed parts out after each of the four calls, in the order above, before going on.
+ * examples/host does so, in a file, and docs/DRIVE.md says how.
  *
  *
  * MEMORY AND TIME
