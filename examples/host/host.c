@@ -28,10 +28,9 @@ static uint32_t make(struct host *h, const char *path, size_t pages, size_t slot
     image_lend(&h->image, pages, slots);
     lend_work(h);
     uint32_t reason = donzhikar_format(AREAS(h));
-    if (reason == DONZHIKAR_DONE) {
+    if (reason == DONZHIKAR_DONE)
         image_make(&h->image, path);
-        image_close(&h->image);
-    }
+    image_give_back(&h->image);
     give_back_work(h);
     return reason;
 }

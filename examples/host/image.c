@@ -37,7 +37,7 @@ void image_lend(struct image *im, size_t pages, size_t slots)
     im->kept_log = zeros(image_log_bytes(im));
 }
 
-static void give_back(struct image *im)
+void image_give_back(struct image *im)
 {
     free(im->stable_pages);
     free(im->kept_pages);
@@ -139,6 +139,7 @@ void image_make(struct image *im, const char *path)
     drive_fill(&im->drive, COUNTS_PLACE, counts);
     fill_from(im, 0, 0);
     drive_name(&im->drive, path);
+    drive_close(&im->drive);
 }
 
 /* The added zeros are on the drive before the counts say that they are in use. */
@@ -168,5 +169,5 @@ int image_open(struct image *im, const char *path, size_t pages, size_t slots)
 void image_close(struct image *im)
 {
     drive_close(&im->drive);
-    give_back(im);
+    image_give_back(im);
 }

@@ -20,8 +20,9 @@ uint8_t *zeros(size_t length);
 
 /* Stable areas of so many pages and slots, all zero, and on no drive. */
 void image_lend(struct image *im, size_t pages, size_t slots);
+void image_give_back(struct image *im);
 
-/* Makes a new drive of this name that holds the stable areas: all of it or none. */
+/* Makes a new drive of this name that holds the stable areas: all of it or none. It is closed again. */
 void image_make(struct image *im, const char *path);
 
 /* Reads the stable areas from the drive of this name. Where it has fewer pages or slots than asked for, zeros are added, on the drive too.

@@ -3,6 +3,7 @@ import os
 import signal
 import subprocess
 import time
+from contextlib import suppress
 from random import Random
 
 from plug.book import Book
@@ -11,13 +12,15 @@ from plug.work import Work
 
 PAGES, SLOTS, MORE = 128, 512, 128
 SHORT = ('17', '18')
+REFUSED = 2  # the host's status where it cannot have its drive
 
 
 def killed(host, words, commands, answered, delay):
     """Starts the host, and kills it so long after so many lines were printed."""
     with subprocess.Popen([host, *map(str, words)], stdin=subprocess.PIPE, stdout=subprocess.PIPE, stderr=subprocess.PIPE) as process:
-        process.stdin.write(''.join(command + '\n' for command in commands).encode())
-        process.stdin.close()
+        with suppress(BrokenPipeError):  # a host whose start is refused reads nothing
+            process.stdin.write(''.join(command + '\n' for command in commands).encode())
+            process.stdin.close()
         lines = [process.stdout.readline() for _ in range(answered)]
         time.sleep(delay)
         process.send_signal(signal.SIGKILL)
@@ -44,11 +47,15 @@ class Life:
         return self.judged(run, commands)
 
     def end(self):
-        """A start that nobody disturbs."""
-        commands = ['list']
-        done = subprocess.run([self.host, self.file, str(self.pages), str(self.slots + MORE)], input='list\n', capture_output=True, text=True)
-        run = Run(done.stdout, done.stderr, done.returncode)
-        return self.judged(run, commands) or (None if run.slides() is not None else f'the list was refused: {run.lines[-1]}')
+        """A start that nobody disturbs. A second host on the same file must not come in."""
+        words, commands = [self.host, self.file, str(self.pages), str(self.slots + MORE)], ['list']
+        with subprocess.Popen(words, stdin=subprocess.PIPE, stdout=subprocess.PIPE, stderr=subprocess.PIPE, text=True) as first:
+            start = first.stdout.readline()
+            second = subprocess.run(words, input='', capture_output=True, text=True)
+            output, error = first.communicate('list\n')
+        run = Run(start + output, error, first.returncode)
+        wrong = self.judged(run, commands) or (f'the list was refused: {run.lines[-1]}' if run.slides() is None else None)
+        return wrong or ('a second host came in' if second.returncode != REFUSED else None)
 
     def judged(self, run, commands):
         answers = run.answers(commands)

@@ -40,7 +40,7 @@ def further(program, file, side, places, random, plug):
     return done.died, done.error or (wrongs[0] if wrongs else None)
 
 
-def placing(program, folder, seeds=3):
+def placing(program, folder, seeds=2):
     """The plug pulled after each event, and then in up to four more runs at random events."""
     file, side = os.path.join(folder, 'drive'), os.path.join(folder, 'side')
     for how, seed in product(('kill', 'power'), range(seeds)):

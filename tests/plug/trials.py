@@ -62,8 +62,8 @@ def judged(book, run):
 
 
 def recovered(register, book, random):
-    """Up to three more deaths, while the register comes back; then it must be there. Returns what is wrong, or None."""
-    for _ in range(random.randrange(4)):
+    """Up to two more deaths, while the register comes back; then it must be there. Returns what is wrong, or None."""
+    for _ in range(random.randrange(3)):
         run = register.run(['list'], Plug(random.randint(1, 40), random.choice(('kill', 'power')), random.randrange(1 << 30)))
         wrong = None if run.died else judged(book, run)
         if wrong:
@@ -96,7 +96,7 @@ def worked(register, seed):
     wrong = judged(book, register.run(['list']))
     if wrong:
         raise ValueError(wrong)
-    return book, register.image(), [*work.each_page(), *work.commands(30, removing=0.5)]
+    return book, register.image(), [*work.each_page(), *work.commands(20, removing=0.5)]
 
 
 def each_event(register, book, image, commands, first=1, stride=1, seeds=1):
@@ -125,7 +125,7 @@ def growing(host, folder):
     register = Register(host, folder)
     book, image, _ = worked(register, seed=2)
     register.slots += 4
-    yield from each_event(register, book, image, ['list'], seeds=4)
+    yield from each_event(register, book, image, ['list'], seeds=3)
 
 
 def making(host, folder):
