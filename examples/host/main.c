@@ -190,6 +190,23 @@ static void obey(struct bench *b, const char *line)
     answer(b, line, reason, command->answers);
 }
 
+/* Reads a line without its end. One that is too long is read to its end, and is no command. Returns 0 where there is none. */
+static int read_line(char line[LINE])
+{
+    if (fgets(line, LINE, stdin) == NULL)
+        return 0;
+    size_t length = strcspn(line, "\n");
+    if (length == LINE - 1) {
+        int byte;
+        do
+            byte = getchar();
+        while (byte != EOF && byte != '\n');
+        length = 0;
+    }
+    line[length] = '\0';
+    return 1;
+}
+
 int main(int count, char **words)
 {
     static struct bench bench;
@@ -202,10 +219,8 @@ int main(int count, char **words)
     answer(&bench, "start", reason, 2);
     if (reason != DONZHIKAR_DONE)
         return 1;
-    while (fgets(line, sizeof line, stdin) != NULL) {
-        line[strcspn(line, "\n")] = '\0';
+    while (read_line(line))
         obey(&bench, line);
-    }
     host_stop(&bench.host);
     return 0;
 }
