@@ -1,23 +1,17 @@
 //! Each tree rule, broken by itself on a sound tree of three levels, is seen.
 
-use reference::layout::{Kind, Page, Pages, Record};
-use reference::log::{Log, OpenBatches, Work};
+use reference::calls::write_update;
+use reference::layout::{Entry, Kind, Page, Pages, Record};
+use reference::log::Work;
 use reference::sizes::{ROOT, TOP};
-use reference::tree::{go_down, slides_of, Purpose};
+use reference::tree::slides_of;
 
 /// Slides 0, 10, 20 and so on, put in by rising key.
 fn tree_of(slides: u32) -> Pages {
-    let mut work = Work {
-        pages: Pages::formatted(300),
-        log: Log { records: Vec::new(), slots: 100_000 },
-        open: OpenBatches::default(),
-    };
+    let mut work = Work::formatted(300, 100_000);
     work.write(Record::new(Kind::Begin)).expect("room");
     for key in (0..slides).map(|slide| 10 * slide) {
-        let leaf = go_down(&mut work, key, Purpose::Adding).expect("room");
-        let previous = work.open.list[0].last;
-        let record = Record { batch: 1, previous, a: leaf, key, second: key, ..Record::new(Kind::Insert) };
-        work.write(record).expect("room");
+        write_update(&mut work, 1, Kind::Insert, Entry::new(key, key)).expect("room");
     }
     work.pages
 }

@@ -1,9 +1,9 @@
 //! What refusal 5 judges, kind by kind and page by page: real changes are redone on pages that differ in one respect.
 
 use reference::bench::Random;
+use reference::calls::write_update;
 use reference::layout::{Entry, Kind, Page, PageKind, Pages, Record};
-use reference::log::{page_changes, redo, Log, OpenBatches, Role, Work};
-use reference::tree::{go_down, Purpose};
+use reference::log::{page_changes, redo, Role, Work};
 use reference::Refusal;
 use std::collections::BTreeSet;
 
@@ -103,20 +103,13 @@ fn is_refused(before: &Pages, record: &Record, role: Role, number: usize, respec
 }
 
 fn update(work: &mut Work, key: u32, kind: Kind) {
-    let purpose = if kind == Kind::Insert { Purpose::Adding } else { Purpose::Removing };
-    let leaf = go_down(work, key, purpose).expect("room");
-    let previous = work.open.list[0].last;
-    work.write(Record { batch: 1, previous, a: leaf, key, second: 7, ..Record::new(kind) }).expect("room");
+    write_update(work, 1, kind, Entry::new(key, 7)).expect("room");
 }
 
 /// The log of a register that grew and shrank through every change of the tree.
 fn records() -> Vec<Record> {
     let mut random = Random::new(3);
-    let mut work = Work {
-        pages: Pages::formatted(400),
-        log: Log { records: Vec::new(), slots: 100_000 },
-        open: OpenBatches::default(),
-    };
+    let mut work = Work::formatted(400, 100_000);
     work.write(Record::new(Kind::Begin)).expect("room");
     let mut present = BTreeSet::new();
     for round in 0..60 {

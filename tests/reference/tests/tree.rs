@@ -2,19 +2,16 @@
 //! of all records from the first makes the same pages again.
 
 use reference::bench::Random;
-use reference::layout::{Kind, Pages, Record};
-use reference::log::{redo, Log, OpenBatches, Work};
+use reference::calls::write_update;
+use reference::layout::{Entry, Kind, Pages, Record};
+use reference::log::{redo, Work};
 use reference::sizes::{MOST_PAGES, ROOT, UPDATE_PAGES, UPDATE_RECORDS};
-use reference::tree::{go_down, slides_of, Purpose};
+use reference::tree::slides_of;
 use std::collections::BTreeSet;
 
 /// One batch in a register without bounds on its log.
 fn large_register() -> Work {
-    let mut work = Work {
-        pages: Pages::formatted(MOST_PAGES),
-        log: Log { records: Vec::new(), slots: 1_000_000 },
-        open: OpenBatches::default(),
-    };
+    let mut work = Work::formatted(MOST_PAGES, 1_000_000);
     work.write(Record::new(Kind::Begin)).expect("room");
     work
 }
@@ -23,11 +20,7 @@ fn large_register() -> Work {
 fn update(work: &mut Work, key: u32, kind: Kind) {
     let written = work.log.records.len();
     let mut pages = work.pages.clone();
-    let purpose = if kind == Kind::Insert { Purpose::Adding } else { Purpose::Removing };
-    let leaf = go_down(work, key, purpose).expect("room");
-    let previous = work.open.list[0].last;
-    let record = Record { batch: 1, previous, a: leaf, key, second: key ^ 1, ..Record::new(kind) };
-    work.write(record).expect("room");
+    write_update(work, 1, kind, Entry::new(key, key ^ 1)).expect("room");
     let new = &work.log.records[written..];
     let taken = new.iter().filter(|record| matches!(record.kind, Kind::Split | Kind::Raise)).count();
     assert!(new.len() <= UPDATE_RECORDS && taken <= UPDATE_PAGES);

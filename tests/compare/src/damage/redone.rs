@@ -55,7 +55,7 @@ fn redone(image: &Areas) -> Option<(Areas, Desk)> {
 }
 
 /// Mostly by a batch that is open, on a key that is there.
-fn some_call(random: &mut Random, areas: &Areas, desk: &Desk) -> Call {
+pub fn some_call(random: &mut Random, areas: &Areas, desk: &Desk) -> Call {
     let open: Vec<u32> = desk.rows.iter().map(|row| row.batch).filter(|batch| *batch != 0).collect();
     let slides = Pages::read(&areas.working_pages).and_then(|pages| slides_of(&pages)).unwrap_or_default();
     let (Some(batch), Some(slide)) = (random.pick(&open), random.pick(&slides)) else {

@@ -50,7 +50,10 @@ fn place_to_forge(random: &mut Random, records: &[Record]) -> Option<usize> {
 }
 
 /// Change one field of a record to another value that its bits hold.
-fn forge_record(random: &mut Random, record: &mut Record, pages: usize) {
+pub fn forge_record(random: &mut Random, record: &mut Record, pages: usize) {
+    if record.kind < Kind::Split && random.once_in(2) {
+        return forge_batch(random, record);
+    }
     let page = random.below(pages);
     match random.below(10) {
         0 => record.a = [0, ROOT, page][random.below(3)],
@@ -66,6 +69,16 @@ fn forge_record(random: &mut Random, record: &mut Record, pages: usize) {
     }
     if record.kind >= Kind::Split && random.once_in(10) {
         record.kind = Kind::ALL[random.within(8, 14)];
+    }
+}
+
+/// Change what a record says of its batch, or what it does there.
+fn forge_batch(random: &mut Random, record: &mut Record) {
+    match random.below(4) {
+        0 => record.batch = random.below(record.own as usize + 1) as u32,
+        1 => record.previous = random.below(record.own as usize + 1) as u32,
+        2 => record.second ^= 1,
+        _ => record.kind = Kind::ALL[random.below(8)],
     }
 }
 

@@ -3,6 +3,7 @@
 
 pub mod any;
 mod book;
+mod careless;
 mod command;
 mod console;
 mod explain;
@@ -16,6 +17,7 @@ mod trace;
 mod vectors;
 
 pub use book::Book;
+pub use careless::{careless, Careless};
 pub use command::{letter_of, Command};
 pub use console::run_console;
 pub use console::Console;

@@ -12,12 +12,14 @@ mod undo;
 mod update;
 mod write_out;
 
+pub use end::take_back;
 pub use outcome::{Answer, Outcome};
 pub use restart::redo_alone;
 pub use sound::{pages_suffice, slots_suffice, sound, Sound};
+pub use update::write_update;
 
-pub(crate) use end::take_back;
-pub(crate) use update::{update, write_update};
+pub(crate) use undo::undo_newest;
+pub(crate) use update::update;
 
 use crate::layout::{Areas, Desk};
 

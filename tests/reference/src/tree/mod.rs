@@ -1,6 +1,6 @@
 //! The tree: its rules, the descent to change a key, and the seven changes that the descent makes.
 
-mod change;
+pub(crate) mod change;
 mod descent;
 mod join;
 mod rules;
