@@ -26,7 +26,7 @@ const RUNS: [Runs; 4] = [
 
 type Try = (&'static str, fn() -> damage::Tried);
 
-const TRIES: [Try; 18] = [
+const TRIES: [Try; 19] = [
     ("every bit of a stored image turned", damage::bits_of_the_image),
     ("bits of all areas turned, for the other calls", damage::bits_for_other_calls),
     ("every bit of the desk turned", damage::bits_of_the_desk),
@@ -44,6 +44,7 @@ const TRIES: [Try; 18] = [
     ("registers with changes redone and nothing undone", damage::redone_registers),
     ("images past the reserves", damage::shortage),
     ("every bit around each page change turned", damage::bits_around_changes),
+    ("each page change forged", damage::forged_around_changes),
     ("registers written without the calls' care", damage::careless_registers),
 ];
 

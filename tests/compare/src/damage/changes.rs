@@ -1,15 +1,18 @@
 //! Each kind of page change by itself: a log that ends with it, and pages that have all records before it and, but for
-//! one, this one too. Every bit of the record and of that page is turned. Redo then judges just that change.
+//! one, this one too. Redo then judges just that change. Every bit of the record and of that page is turned, and both
+//! are forged.
 
 use super::{put, restart, Tried};
 use crate::beside::Beside;
 use crate::difference::Difference;
+use reference::bench::forge::{forge_page, forge_record};
 use reference::bench::Random;
 use reference::calls::{take_back, write_update};
-use reference::layout::{Areas, Entry, Kind, Pages, Record};
+use reference::layout::{Areas, Entry, Kind, Page, Pages, Record};
 use reference::log::{page_changes, redo, Log, Work};
-use reference::sizes::{ENTRY_BYTES, PAGE_BYTES, SLOT_BYTES};
+use reference::sizes::{ENTRY_BYTES, MAP, PAGE_BYTES, SLOT_BYTES};
 use std::collections::{BTreeMap, BTreeSet};
+use std::fmt::Display;
 
 const PAGES: usize = 100;
 const SLOTS: usize = 2000;
@@ -22,6 +25,9 @@ const UPDATES: usize = 6;
 /// How many kinds of change, levels told apart and redistributions by their direction, the histories have at least.
 const CHANGES: usize = 20;
 
+/// How often a change is forged on each of its pages.
+const FORGED: usize = 300;
+
 /// Room for what a restart adds.
 const MORE_SLOTS: usize = 64;
 
@@ -30,13 +36,21 @@ const PAGE_HEAD: usize = 16;
 const RECORD_HEAD: usize = 32;
 
 pub fn bits_around_changes() -> Tried {
+    around_changes(Alone::turn_bits)
+}
+
+pub fn forged_around_changes() -> Tried {
+    around_changes(Alone::forge)
+}
+
+/// Try each change on each of its pages.
+fn around_changes(tries: fn(&mut Alone) -> Result<(), Difference>) -> Tried {
     let mut beside = Beside::new();
     for records in logs() {
-        let last = &records[records.len() - 1];
-        let what = |page: usize| format!("{} records, the last ({:?}) alone on page {page}", records.len(), last.kind);
-        let image = Image::new(&records);
-        for (_, page) in page_changes(last) {
-            image.try_page(&mut beside, page).map_err(|difference| difference.at(what(page)))?;
+        for (_, page) in page_changes(&records[records.len() - 1]) {
+            let mut alone = Alone::new(beside, &records, page);
+            tries(&mut alone).map_err(|difference| difference.at(alone.name()))?;
+            beside = alone.beside;
         }
     }
     Ok(beside.tally)
@@ -99,36 +113,72 @@ fn some_key(random: &mut Random, case: usize, update: usize) -> u32 {
     key as u32
 }
 
-struct Image {
+/// A change to be redone on one page alone.
+struct Alone {
+    beside: Beside,
     records: Vec<Record>,
-    /// The pages without and with the last record.
-    before: Pages,
-    after: Pages,
+    page: usize,
+    /// The page without the last record.
+    before: Page,
+    areas: Areas,
 }
 
-impl Image {
-    fn new(records: &[Record]) -> Image {
-        let mut before = Pages::formatted(PAGES);
-        redo(&mut before, &records[..records.len() - 1]).expect("a history");
-        let mut after = before.clone();
-        redo(&mut after, &records[records.len() - 1..]).expect("a history");
-        Image { records: records.to_vec(), before, after }
+impl Alone {
+    fn new(beside: Beside, records: &[Record], page: usize) -> Alone {
+        let mut pages = Pages::formatted(PAGES);
+        redo(&mut pages, &records[..records.len() - 1]).expect("a history");
+        let (before, bytes) = (pages.list[page].clone(), pages.page_bytes(page));
+        redo(&mut pages, &records[records.len() - 1..]).expect("a history");
+        let mut pages = pages.bytes();
+        put(&mut pages, PAGE_BYTES, page, &bytes);
+        let log = Log { records: records.to_vec(), slots: records.len() + MORE_SLOTS }.bytes();
+        let areas =
+            Areas { working_pages: pages.clone(), stable_pages: pages, working_log: log.clone(), stable_log: log };
+        Alone { beside, records: records.to_vec(), page, before, areas }
     }
 
-    /// Turn each bit of the last record, and each bit of the one page that lacks it.
-    fn try_page(&self, beside: &mut Beside, page: usize) -> Result<(), Difference> {
-        let log = Log { records: self.records.clone(), slots: self.records.len() + MORE_SLOTS }.bytes();
-        let mut pages = self.after.bytes();
-        put(&mut pages, PAGE_BYTES, page, &self.before.page_bytes(page));
-        let mut areas =
-            Areas { working_pages: pages.clone(), stable_pages: pages, working_log: log.clone(), stable_log: log };
-        restart(beside, &areas, "undamaged")?;
-        let last = self.records.len() - 1;
-        for bit in 0..8 * used(RECORD_HEAD, self.records[last].entries.len(), SLOT_BYTES) {
-            try_bit(beside, &mut areas, |areas| &mut areas.stable_log[last * SLOT_BYTES..], bit, "the record")?;
+    fn last(&self) -> &Record {
+        &self.records[self.records.len() - 1]
+    }
+
+    fn name(&self) -> String {
+        format!("{} records, the last ({:?}) alone on page {}", self.records.len(), self.last().kind, self.page)
+    }
+
+    fn restart(&mut self, what: impl Display) -> Result<(), Difference> {
+        restart(&mut self.beside, &self.areas, what).map(drop)
+    }
+
+    /// Turn each bit of the last record, and each bit of the page.
+    fn turn_bits(&mut self) -> Result<(), Difference> {
+        self.restart("undamaged")?;
+        let record = (self.records.len() - 1) * SLOT_BYTES;
+        for bit in 0..8 * used(RECORD_HEAD, self.last().entries.len(), SLOT_BYTES) {
+            self.areas.stable_log[record + bit / 8] ^= 0x80 >> (bit % 8);
+            self.restart(format!("bit {bit} of the record turned"))?;
+            self.areas.stable_log[record + bit / 8] ^= 0x80 >> (bit % 8);
         }
-        for bit in 0..8 * used(PAGE_HEAD, self.before.list[page].entries.len(), PAGE_BYTES) {
-            try_bit(beside, &mut areas, |areas| &mut areas.stable_pages[page * PAGE_BYTES..], bit, "the page")?;
+        let page = self.page * PAGE_BYTES;
+        for bit in 0..8 * used(PAGE_HEAD, self.before.entries.len(), PAGE_BYTES) {
+            self.areas.stable_pages[page + bit / 8] ^= 0x80 >> (bit % 8);
+            self.restart(format!("bit {bit} of the page turned"))?;
+            self.areas.stable_pages[page + bit / 8] ^= 0x80 >> (bit % 8);
+        }
+        Ok(())
+    }
+
+    /// Forge the last record, the page, or both.
+    fn forge(&mut self) -> Result<(), Difference> {
+        let mut random = Random::new(7);
+        for turn in 0..FORGED {
+            let (mut record, mut page) = (self.last().clone(), self.before.clone());
+            (0..random.below(3)).for_each(|_| forge_record(&mut random, &mut record, PAGES));
+            put(&mut self.areas.stable_log, SLOT_BYTES, self.records.len() - 1, &record.bytes());
+            if self.page != MAP {
+                (0..random.below(3)).for_each(|_| forge_page(&mut random, &mut page));
+                put(&mut self.areas.stable_pages, PAGE_BYTES, self.page, &page.bytes());
+            }
+            self.restart(format!("forged, turn {turn}"))?;
         }
         Ok(())
     }
@@ -137,18 +187,4 @@ impl Image {
 /// The head, the entries and one unused entry.
 fn used(head: usize, entries: usize, most: usize) -> usize {
     (head + ENTRY_BYTES * (entries + 1)).min(most)
-}
-
-fn try_bit(
-    beside: &mut Beside,
-    areas: &mut Areas,
-    part: impl Fn(&mut Areas) -> &mut [u8],
-    bit: usize,
-    name: &str,
-) -> Result<(), Difference> {
-    let turn = |areas: &mut Areas| part(areas)[bit / 8] ^= 0x80 >> (bit % 8);
-    turn(areas);
-    restart(beside, areas, format!("bit {bit} of {name} turned"))?;
-    turn(areas);
-    Ok(())
 }

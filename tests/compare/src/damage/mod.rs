@@ -14,7 +14,7 @@ mod redone;
 pub use anything::{anything, forged_images, shortage};
 pub use bits::{bits_for_other_calls, bits_of_the_desk, bits_of_the_image};
 pub use careless::careless_registers;
-pub use changes::bits_around_changes;
+pub use changes::{bits_around_changes, forged_around_changes};
 pub use lengths::{lengths_of_areas, lengths_of_desk_and_values};
 pub use pages::{mixed_pages, pages_at_wrong_places, stale_pages};
 pub use records::{repeated_records, swapped_records, torn_records, truncated_logs};

@@ -10,21 +10,21 @@ use crate::tree::change;
 use crate::Refusal;
 use std::collections::BTreeMap;
 
-/// Keys are few, so that batches meet on them.
-const KEYS: usize = 200;
-
 pub struct Careless {
     pub work: Work,
     /// The pages as they were at some moments, first and last among them.
     pub moments: Vec<Pages>,
     /// What stands in the leaves while the tree is whole.
     slides: BTreeMap<u32, u32>,
+    /// How many keys there are: few, so that batches meet on them, or enough for a tree.
+    keys: usize,
 }
 
 /// So many steps of open batches over some committed slides, and sometimes changes of the tree at any place.
 pub fn careless(random: &mut Random) -> Careless {
     let work = Work::formatted(random.within(30, 60), 900);
-    let mut careless = Careless { moments: vec![work.pages.clone()], work, slides: BTreeMap::new() };
+    let keys = [6, 40, 200][random.below(3)];
+    let mut careless = Careless { moments: vec![work.pages.clone()], work, slides: BTreeMap::new(), keys };
     let steps = random.within(3, 40);
     let _ = careless.fill(random).and_then(|()| (0..steps).try_for_each(|_| careless.step(random)));
     for _ in 0..[0, 0, 1, 3][random.below(4)] {
@@ -75,7 +75,7 @@ impl Careless {
 
     /// Put in a key that is not there, or take out one that is, whoever holds it.
     fn update(&mut self, random: &mut Random, batch: u32) -> Result<(), Refusal> {
-        let key = random.below(KEYS) as u32;
+        let key = random.below(self.keys) as u32;
         let there = self.slides.get(&key).map(|value| Entry::new(key, *value));
         match there {
             Some(slide) if random.once_in(2) => {

@@ -1,7 +1,7 @@
 //! Forged registers, for demand 1: turned bits, and stored images that keep their layout but not their sense.
 
 use super::Random;
-use crate::layout::{Areas, Entry, Kind, Page, Pages, Record};
+use crate::layout::{Areas, Entry, Kind, Page, PageKind, Pages, Record};
 use crate::log::{is_empty_slot, Log};
 use crate::sizes::{ROOT, SLOT_BYTES, TOP};
 
@@ -92,6 +92,22 @@ fn forge_entry(random: &mut Random, entries: &mut [Entry]) {
         0 => forged.key = forged.key.wrapping_add(1),
         1 => forged.value ^= 1 << random.below(32),
         _ => forged.value = random.below(20) as u32,
+    }
+}
+
+/// Change what a page is or holds, in a way that the layout mostly allows. The map stays.
+pub fn forge_page(random: &mut Random, page: &mut Page) {
+    match random.below(6) {
+        _ if page.kind == PageKind::Map => {}
+        0 => *page = Page::free(page.own, page.log),
+        1 => page.entries.clear(),
+        2 => drop(page.entries.pop()),
+        3 => forge_entry(random, &mut page.entries),
+        4 => page.right = [0, page.own, random.below(20)][random.below(3)],
+        _ => {
+            page.level = random.below(3);
+            page.kind = PageKind::at_level(page.level);
+        }
     }
 }
 
