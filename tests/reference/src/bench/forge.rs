@@ -87,10 +87,13 @@ fn forge_entry(random: &mut Random, entries: &mut [Entry]) {
         return;
     }
     let place = random.below(entries.len());
+    let other = random.below(entries.len());
     let forged = &mut entries[place];
-    match random.below(3) {
+    match random.below(4) {
         0 => forged.key = forged.key.wrapping_add(1),
-        1 => forged.value ^= 1 << random.below(32),
+        // Entries that do not rise: a search then depends on how it goes.
+        1 => entries.swap(place, other),
+        2 => forged.value ^= 1 << random.below(32),
         _ => forged.value = random.below(20) as u32,
     }
 }
