@@ -5,11 +5,11 @@ use super::redone::some_call;
 use super::{put, restart, Tried};
 use crate::beside::Beside;
 use crate::difference::Difference;
-use reference::bench::forge::forge_record;
-use reference::bench::{careless, Careless, Random};
+use reference::bench::forge::{forge_page, forge_record};
+use reference::bench::{careless, Random};
 use reference::layout::{Areas, Desk, Kind, Pages, Record};
 use reference::log::{Log, OpenBatches};
-use reference::sizes::{MOST_BATCHES, PAGE_BYTES, SLOT_BYTES};
+use reference::sizes::{MOST_BATCHES, PAGE_BYTES, ROOT, SLOT_BYTES};
 
 const REGISTERS: usize = 6000;
 
@@ -22,15 +22,21 @@ pub fn careless_registers() -> Tried {
     for number in 0..REGISTERS {
         let register = careless(&mut random);
         let mut records = register.work.log.records.clone();
+        let mut pages = register.work.pages.clone();
         match random.below(8) {
             0 => crowd(&mut random, &mut records),
-            1..=4 => {
+            1 | 2 => {
                 let place = random.below(records.len());
-                forge_record(&mut random, &mut records[place], register.work.pages.count());
+                forge_record(&mut random, &mut records[place], pages.count());
+            }
+            3 => add_to_a_batch(&mut random, &mut records),
+            4 => {
+                let page = random.below(pages.count());
+                forge_page(&mut random, &mut pages.list[if page % 2 == 0 { page } else { ROOT }]);
             }
             _ => {}
         }
-        try_register(&mut beside, &mut random, &register, records)
+        try_register(&mut beside, &mut random, &register.moments, &pages, records)
             .map_err(|difference| difference.at(format!("careless register {number}")))?;
     }
     Ok(beside.tally)
@@ -50,13 +56,31 @@ fn crowd(random: &mut Random, records: &mut Vec<Record>) {
     }
 }
 
+/// One record more of an open batch, after its last one, whether the chain lets it follow or not.
+fn add_to_a_batch(random: &mut Random, records: &mut Vec<Record>) {
+    let open = OpenBatches::after(records).map_or(Vec::new(), |open| open.list);
+    if open.is_empty() {
+        return;
+    }
+    let batch = &open[random.below(open.len())];
+    let kind = Kind::ALL[random.within(1, 7)];
+    let own = records.len() as u32 + 1;
+    let mut record = Record { own, batch: batch.number, previous: batch.last, ..Record::new(kind) };
+    if kind < Kind::Commit {
+        record.a = ROOT;
+        record.key = random.number();
+    }
+    records.push(record);
+}
+
 fn try_register(
     beside: &mut Beside,
     random: &mut Random,
-    register: &Careless,
+    moments: &[Pages],
+    pages: &Pages,
     records: Vec<Record>,
 ) -> Result<(), Difference> {
-    let last = register.work.pages.bytes();
+    let last = pages.bytes();
     // Slots to spare, or so few that a restart or the reserves run short.
     let slots = records.len() + [0, 5, 40, 700][random.below(4)];
     let desk = |stored: usize| match OpenBatches::after(&records) {
@@ -66,13 +90,13 @@ fn try_register(
     let stored = if random.once_in(2) { records.len() } else { random.below(records.len() + 1) };
     let desk = desk(stored);
     let log = Log { records, slots: slots.max(64) }.bytes();
-    let never_written = Pages::formatted(register.work.pages.count()).bytes();
+    let never_written = Pages::formatted(pages.count()).bytes();
     let mut areas =
         Areas { working_pages: last.clone(), stable_pages: last, working_log: log.clone(), stable_log: log };
     restart(beside, &areas, "all pages written out")?;
     areas.stable_pages = never_written;
     restart(beside, &areas, "no page written out")?;
-    areas.stable_pages = of_moments(random, &register.moments);
+    areas.stable_pages = of_moments(random, moments);
     restart(beside, &areas, "pages written out at some moments")?;
     areas.stable_log[stored * SLOT_BYTES..].fill(0);
     try_calls(beside, random, areas, desk)

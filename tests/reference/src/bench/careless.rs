@@ -113,7 +113,7 @@ impl Careless {
     fn change_tree(&mut self, random: &mut Random) -> Result<(), Refusal> {
         let used: Vec<usize> =
             (ROOT..self.work.pages.count()).filter(|page| self.work.pages.map.is_used(*page)).collect();
-        let page = random.pick(&used).unwrap_or(ROOT);
+        let page = random.pick(&used).filter(|_| !random.once_in(3)).unwrap_or(ROOT);
         let (entries, right) = (self.work.page(page).entries.len(), self.work.page(page).right);
         let beside = if right == 0 { 0 } else { self.work.page(right).entries.len() };
         let place = random.below(entries.max(1));
