@@ -5,7 +5,7 @@ use super::Random;
 use crate::calls::{undo_newest, write_update};
 use crate::layout::{Entry, Kind, Pages, Record};
 use crate::log::{Batch, Update, Work};
-use crate::sizes::{MOST_BATCHES, MOST_ENTRIES, ROOT, SPLIT_KEEPS};
+use crate::sizes::{FEWEST_ENTRIES, MOST_BATCHES, MOST_ENTRIES, ROOT, SPLIT_KEEPS};
 use crate::tree::change;
 use crate::Refusal;
 use std::collections::BTreeMap;
@@ -29,6 +29,9 @@ pub fn careless(random: &mut Random) -> Careless {
     let _ = careless.fill(random).and_then(|()| (0..steps).try_for_each(|_| careless.step(random)));
     for _ in 0..[0, 0, 1, 3][random.below(4)] {
         let _ = careless.change_tree(random);
+    }
+    if random.once_in(10) {
+        let _ = careless.thin_root(random);
     }
     careless.moments.push(careless.work.pages.clone());
     careless
@@ -107,6 +110,15 @@ impl Careless {
 
     fn still_stands(&self, update: &Update) -> bool {
         (update.kind == Kind::Insert) == self.slides.contains_key(&update.key)
+    }
+
+    /// A root beside a sibling, with so few entries as no record leaves there.
+    fn thin_root(&mut self, random: &mut Random) -> Result<(), Refusal> {
+        if self.work.page(ROOT).entries.len() > SPLIT_KEEPS {
+            change::split(&mut self.work, ROOT)?;
+        }
+        self.work.pages.list[ROOT].entries.truncate(random.within(1, FEWEST_ENTRIES));
+        Ok(())
     }
 
     /// A change of the tree where its record can be written, wherever the rules want it or not.
