@@ -8,9 +8,9 @@ use crate::difference::Difference;
 use reference::bench::forge::{forge_page, forge_record};
 use reference::bench::Random;
 use reference::calls::{take_back, write_update};
-use reference::layout::{Areas, Entry, Kind, Page, Pages, Record};
+use reference::layout::{Areas, Entry, Kind, Page, PageKind, Pages, Record};
 use reference::log::{page_changes, redo, Log, Work};
-use reference::sizes::{ENTRY_BYTES, MAP, PAGE_BYTES, SLOT_BYTES};
+use reference::sizes::{ENTRY_BYTES, HIGHEST_LEVEL, MAP, PAGE_BYTES, SLOT_BYTES};
 use std::collections::{BTreeMap, BTreeSet};
 use std::fmt::Display;
 
@@ -173,6 +173,9 @@ impl Alone {
         for turn in 0..FORGED {
             let (mut record, mut page) = (self.last().clone(), self.before.clone());
             (0..random.below(3)).for_each(|_| forge_record(&mut random, &mut record, PAGES));
+            if random.once_in(8) {
+                same_level(&mut random, &mut record, &mut page);
+            }
             put(&mut self.areas.stable_log, SLOT_BYTES, self.records.len() - 1, &record.bytes());
             if self.page != MAP {
                 (0..random.below(3)).for_each(|_| forge_page(&mut random, &mut page));
@@ -182,6 +185,14 @@ impl Alone {
         }
         Ok(())
     }
+}
+
+/// Both at one level, the highest ones too.
+fn same_level(random: &mut Random, record: &mut Record, page: &mut Page) {
+    let level = [0, 1, HIGHEST_LEVEL - 1, HIGHEST_LEVEL][random.below(4)];
+    record.level = level;
+    page.level = level;
+    page.kind = PageKind::at_level(level);
 }
 
 /// The head, the entries and one unused entry.

@@ -3,6 +3,7 @@
 
 use super::Tried;
 use crate::beside::Beside;
+use crate::difference::Difference;
 use reference::bench::any::any_call;
 use reference::bench::forge::forge_image;
 use reference::bench::{run, Instrument, Random, Shape};
@@ -19,18 +20,31 @@ pub fn redone_registers() -> Tried {
     for seed in 41..53 {
         for (place, image) in images_of(seed).iter().enumerate() {
             let forged = if random.once_in(2) { forge_image(&mut random, image) } else { None };
-            let Some((mut areas, mut desk)) = redone(forged.as_ref().unwrap_or(image)) else {
+            let Some((areas, desk)) = redone(forged.as_ref().unwrap_or(image)) else {
                 continue;
             };
-            for turn in 0..CALLS {
-                let made = some_call(&mut random, &areas, &desk);
-                let what = || format!("run plain {seed}, image {place}, call {turn} ({made:?})");
-                let outcome = beside.try_on(&areas, &desk, made).map_err(|difference| difference.at(what()))?;
-                (areas, desk) = (outcome.areas, outcome.desk);
-            }
+            try_calls(&mut beside, &mut random, areas, desk, CALLS)
+                .map_err(|difference| difference.at(format!("run plain {seed}, image {place}")))?;
         }
     }
     Ok(beside.tally)
+}
+
+/// Make so many calls, each on what the last one left.
+pub fn try_calls(
+    beside: &mut Beside,
+    random: &mut Random,
+    mut areas: Areas,
+    mut desk: Desk,
+    calls: usize,
+) -> Result<(), Difference> {
+    for call in 0..calls {
+        let made = some_call(random, &areas, &desk);
+        let outcome = beside.try_on(&areas, &desk, made);
+        let outcome = outcome.map_err(|difference| difference.at(format!("call {call} ({made:?})")))?;
+        (areas, desk) = (outcome.areas, outcome.desk);
+    }
+    Ok(())
 }
 
 /// A run's stored images: those that its cuts leave, and every so many commands one more.
@@ -55,7 +69,7 @@ fn redone(image: &Areas) -> Option<(Areas, Desk)> {
 }
 
 /// Mostly by a batch that is open, on a key that is there.
-pub fn some_call(random: &mut Random, areas: &Areas, desk: &Desk) -> Call {
+fn some_call(random: &mut Random, areas: &Areas, desk: &Desk) -> Call {
     let open: Vec<u32> = desk.rows.iter().map(|row| row.batch).filter(|batch| *batch != 0).collect();
     let slides = Pages::read(&areas.working_pages).and_then(|pages| slides_of(&pages)).unwrap_or_default();
     let (Some(batch), Some(slide)) = (random.pick(&open), random.pick(&slides)) else {

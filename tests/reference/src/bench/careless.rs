@@ -5,7 +5,7 @@ use super::Random;
 use crate::calls::{undo_newest, write_update};
 use crate::layout::{Entry, Kind, Pages, Record};
 use crate::log::{Batch, Update, Work};
-use crate::sizes::{MOST_BATCHES, MOST_ENTRIES, ROOT, SPLIT_KEEPS};
+use crate::sizes::{FEWEST_ENTRIES, MOST_BATCHES, MOST_ENTRIES, ROOT, SPLIT_KEEPS};
 use crate::tree::change;
 use crate::Refusal;
 use std::collections::BTreeMap;
@@ -29,6 +29,9 @@ pub fn careless(random: &mut Random) -> Careless {
     let _ = careless.fill(random).and_then(|()| (0..steps).try_for_each(|_| careless.step(random)));
     for _ in 0..[0, 0, 1, 3][random.below(4)] {
         let _ = careless.change_tree(random);
+    }
+    if random.once_in(10) {
+        let _ = careless.thin_root(random);
     }
     careless.moments.push(careless.work.pages.clone());
     careless
@@ -109,11 +112,20 @@ impl Careless {
         (update.kind == Kind::Insert) == self.slides.contains_key(&update.key)
     }
 
+    /// A root beside a sibling, with so few entries as no record leaves there.
+    fn thin_root(&mut self, random: &mut Random) -> Result<(), Refusal> {
+        if self.work.page(ROOT).entries.len() > SPLIT_KEEPS {
+            change::split(&mut self.work, ROOT)?;
+        }
+        self.work.pages.list[ROOT].entries.truncate(random.within(1, FEWEST_ENTRIES));
+        Ok(())
+    }
+
     /// A change of the tree where its record can be written, wherever the rules want it or not.
     fn change_tree(&mut self, random: &mut Random) -> Result<(), Refusal> {
         let used: Vec<usize> =
             (ROOT..self.work.pages.count()).filter(|page| self.work.pages.map.is_used(*page)).collect();
-        let page = random.pick(&used).unwrap_or(ROOT);
+        let page = random.pick(&used).filter(|_| !random.once_in(3)).unwrap_or(ROOT);
         let (entries, right) = (self.work.page(page).entries.len(), self.work.page(page).right);
         let beside = if right == 0 { 0 } else { self.work.page(right).entries.len() };
         let place = random.below(entries.max(1));

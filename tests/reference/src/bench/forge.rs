@@ -87,21 +87,24 @@ fn forge_entry(random: &mut Random, entries: &mut [Entry]) {
         return;
     }
     let place = random.below(entries.len());
+    let other = random.below(entries.len());
     let forged = &mut entries[place];
-    match random.below(3) {
+    match random.below(4) {
         0 => forged.key = forged.key.wrapping_add(1),
-        1 => forged.value ^= 1 << random.below(32),
+        // Entries that do not rise: a search then depends on how it goes.
+        1 => entries.swap(place, other),
+        2 => forged.value ^= 1 << random.below(32),
         _ => forged.value = random.below(20) as u32,
     }
 }
 
 /// Change what a page is or holds, in a way that the layout mostly allows. The map stays.
 pub fn forge_page(random: &mut Random, page: &mut Page) {
-    match random.below(6) {
+    match random.below(7) {
         _ if page.kind == PageKind::Map => {}
         0 => *page = Page::free(page.own, page.log),
-        1 => page.entries.clear(),
-        2 => drop(page.entries.pop()),
+        1 => page.entries.truncate(random.below(5)),
+        2 => page.high = page.high.wrapping_add([1, u32::MAX][random.below(2)]),
         3 => forge_entry(random, &mut page.entries),
         4 => page.right = [0, page.own, random.below(20)][random.below(3)],
         _ => {
