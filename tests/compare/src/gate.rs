@@ -18,7 +18,7 @@ struct Runs {
 }
 
 const RUNS: [Runs; 4] = [
-    Runs { what: "plain runs, cut after every store", shape: Shape::Plain, seeds: 1..25, calls: 1500 },
+    Runs { what: "plain runs, cut after every store", shape: Shape::Plain, seeds: 1..21, calls: 1500 },
     Runs { what: "runs with damage in between", shape: Shape::Damaged, seeds: 1..9, calls: 1500 },
     Runs { what: "runs with eight batches open", shape: Shape::Crowded, seeds: 1..7, calls: 1500 },
     Runs { what: "runs at the largest size", shape: Shape::Largest, seeds: 1..4, calls: 150 },

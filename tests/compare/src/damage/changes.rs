@@ -1,6 +1,6 @@
 //! Each kind of page change by itself: a log that ends with it, and pages that have all records before it and, but for
-//! one, this one too. Redo then judges just that change. Every bit of the record and of that page is turned, and both
-//! are forged.
+//! one or for all that it changes, this one too. Redo then judges just that change. Every bit of the record and of the
+//! page is turned, and both are forged.
 
 use super::{put, restart, Tried};
 use crate::beside::Beside;
@@ -47,8 +47,10 @@ pub fn forged_around_changes() -> Tried {
 fn around_changes(tries: fn(&mut Alone) -> Result<(), Difference>) -> Tried {
     let mut beside = Beside::new();
     for records in logs() {
-        for (_, page) in page_changes(&records[records.len() - 1]) {
-            let mut alone = Alone::new(beside, &records, page);
+        let changed: Vec<usize> = page_changes(&records[records.len() - 1]).iter().map(|change| change.1).collect();
+        let all = (changed.len() > 1).then_some(&changed[..]);
+        for lacking in changed.iter().map(std::slice::from_ref).chain(all) {
+            let mut alone = Alone::new(beside, &records, lacking);
             tries(&mut alone).map_err(|difference| difference.at(alone.name()))?;
             beside = alone.beside;
         }
@@ -113,28 +115,31 @@ fn some_key(random: &mut Random, case: usize, update: usize) -> u32 {
     key as u32
 }
 
-/// A change to be redone on one page alone.
+/// A change to be redone and no other.
 struct Alone {
     beside: Beside,
     records: Vec<Record>,
-    page: usize,
-    /// The page without the last record.
+    /// The pages that lack the last record, and the first of them as it was without it.
+    lacking: Vec<usize>,
     before: Page,
     areas: Areas,
 }
 
 impl Alone {
-    fn new(beside: Beside, records: &[Record], page: usize) -> Alone {
-        let mut pages = Pages::formatted(PAGES);
-        redo(&mut pages, &records[..records.len() - 1]).expect("a history");
-        let (before, bytes) = (pages.list[page].clone(), pages.page_bytes(page));
-        redo(&mut pages, &records[records.len() - 1..]).expect("a history");
-        let mut pages = pages.bytes();
-        put(&mut pages, PAGE_BYTES, page, &bytes);
+    fn new(beside: Beside, records: &[Record], lacking: &[usize]) -> Alone {
+        let mut before = Pages::formatted(PAGES);
+        redo(&mut before, &records[..records.len() - 1]).expect("a history");
+        let mut after = before.clone();
+        redo(&mut after, &records[records.len() - 1..]).expect("a history");
+        let mut pages = after.bytes();
+        for page in lacking {
+            put(&mut pages, PAGE_BYTES, *page, &before.page_bytes(*page));
+        }
         let log = Log { records: records.to_vec(), slots: records.len() + MORE_SLOTS }.bytes();
         let areas =
             Areas { working_pages: pages.clone(), stable_pages: pages, working_log: log.clone(), stable_log: log };
-        Alone { beside, records: records.to_vec(), page, before, areas }
+        let before = before.list[lacking[0]].clone();
+        Alone { beside, records: records.to_vec(), lacking: lacking.to_vec(), before, areas }
     }
 
     fn last(&self) -> &Record {
@@ -142,14 +147,14 @@ impl Alone {
     }
 
     fn name(&self) -> String {
-        format!("{} records, the last ({:?}) alone on page {}", self.records.len(), self.last().kind, self.page)
+        format!("{} records, the last ({:?}) not in pages {:?}", self.records.len(), self.last().kind, self.lacking)
     }
 
     fn restart(&mut self, what: impl Display) -> Result<(), Difference> {
         restart(&mut self.beside, &self.areas, what).map(drop)
     }
 
-    /// Turn each bit of the last record, and each bit of the page.
+    /// Turn each bit of the last record, and each bit of a page that alone lacks it.
     fn turn_bits(&mut self) -> Result<(), Difference> {
         self.restart("undamaged")?;
         let record = (self.records.len() - 1) * SLOT_BYTES;
@@ -158,7 +163,11 @@ impl Alone {
             self.restart(format!("bit {bit} of the record turned"))?;
             self.areas.stable_log[record + bit / 8] ^= 0x80 >> (bit % 8);
         }
-        let page = self.page * PAGE_BYTES;
+        // Where all pages lack the record, each one's bits have had their turn.
+        if self.lacking.len() > 1 {
+            return Ok(());
+        }
+        let page = self.lacking[0] * PAGE_BYTES;
         for bit in 0..8 * used(PAGE_HEAD, self.before.entries.len(), PAGE_BYTES) {
             self.areas.stable_pages[page + bit / 8] ^= 0x80 >> (bit % 8);
             self.restart(format!("bit {bit} of the page turned"))?;
@@ -177,9 +186,9 @@ impl Alone {
                 same_level(&mut random, &mut record, &mut page);
             }
             put(&mut self.areas.stable_log, SLOT_BYTES, self.records.len() - 1, &record.bytes());
-            if self.page != MAP {
+            if self.lacking[0] != MAP {
                 (0..random.below(3)).for_each(|_| forge_page(&mut random, &mut page));
-                put(&mut self.areas.stable_pages, PAGE_BYTES, self.page, &page.bytes());
+                put(&mut self.areas.stable_pages, PAGE_BYTES, self.lacking[0], &page.bytes());
             }
             self.restart(format!("forged, turn {turn}"))?;
         }

@@ -3,7 +3,7 @@
 use super::Random;
 use crate::layout::{Areas, Entry, Kind, Page, PageKind, Pages, Record};
 use crate::log::{is_empty_slot, Log};
-use crate::sizes::{ROOT, SLOT_BYTES, TOP};
+use crate::sizes::{MOST_ENTRIES, ROOT, SLOT_BYTES, TOP};
 
 /// Turn one bit of one area, mostly in the part of a log that is full.
 pub fn turn_a_bit(random: &mut Random, areas: &mut Areas) {
@@ -100,8 +100,9 @@ fn forge_entry(random: &mut Random, entries: &mut [Entry]) {
 
 /// Change what a page is or holds, in a way that the layout mostly allows. The map stays.
 pub fn forge_page(random: &mut Random, page: &mut Page) {
-    match random.below(7) {
+    match random.below(8) {
         _ if page.kind == PageKind::Map => {}
+        7 => page.entries.splice(..0, vec![Entry::new(0, 1); MOST_ENTRIES - page.entries.len()]).for_each(drop),
         0 => *page = Page::free(page.own, page.log),
         1 => page.entries.truncate(random.below(5)),
         2 => page.high = page.high.wrapping_add([1, u32::MAX][random.below(2)]),
