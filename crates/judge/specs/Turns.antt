@@ -28,7 +28,7 @@ use Rattle.chain.specs.Shown.{right-with, Shows}
 use Rattle.chain.specs.Steps.{Tells, Stepped, Steps, GoesOn}
 use Rattle.chain.specs.Families.{longer-row, updates-ask, halts, updates}
 use Rattle.chain.specs.Undos.{StepsIn}
-use Rattle.judge.specs.Updates.{told-by, Update, TellsUpdate}
+use Rattle.judge.specs.Updates.{told-by, TellsUpdate}
 
 -- What a slot that should hold record k of a register of n pages makes of the batches.
 unfoldable pub Turned : ℕ → ℕ → Slot → List Batch → Judged → Type 0

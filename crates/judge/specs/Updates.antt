@@ -1,20 +1,18 @@
 -- A slot that holds an insert or a delete, known by its eight words and the zeros after them: most slots of a full log are such.
 use Prim.Native.Nat.{ℕ, zero, suc, _+_, _-_, _*_, _/_, _%_, _≤_, _<_}
 use mathlib.Core.Path.{_≡_, refl, sym, ap, _∙_, subst}
-use mathlib.Core.Bool.{Bool, true, false, _&&_}
-use mathlib.Core.List.{List, []}
+use mathlib.Core.Bool.{Bool, true, false}
+use mathlib.Core.List.{List}
 use native.Mathlib.Nat.{add-sub-cancel-left}
 use native.Mathlib.Numerals.{add-one}
 use native.Mathlib.Omega.{arith}
 use lib.ListN.{length, take, drop, length-drop}
 use lib.Seq.{length-take-le}
-use lib.Dec.{eqb, ltb}
+use lib.Dec.{eqb}
 use Rattle.base.specs.Tests.{and-both, eq-true, neq-false, lt-true}
-use borrow.Author.Tests.{eqb-false}
-use Rattle.layout.specs.declared.Entry.{Entry}
-use Rattle.layout.specs.Entries.{entry-at, entry, no-entry}
+use Rattle.layout.specs.Entries.{no-entry}
 use Rattle.layout.specs.Numbers.{be32, tab, read-entry, same-bytes, zeros}
-use Rattle.layout.specs.Records.{Rec, kind-of, data-row}
+use Rattle.layout.specs.Records.{kind-of, data-row}
 use Rattle.layout.specs.RecordBytes.{Slot, full, slot-size, record-fields, read-slot}
 use Rattle.layout.specs.Rows.{carries, named-only, row-says, row, names-pages}
 use Rattle.model.specs.Log.{is-empty}

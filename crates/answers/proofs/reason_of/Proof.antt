@@ -2,7 +2,7 @@
 use borrow.Author.Needs.{needs}
 use Rattle.answers.proofs.reason_of.Statement.{statement}
 use Rattle.answers.proofs.reason_of.Tie as tie
-use mathlib.Core.Path.{_≡_, sym, ap, _∙_}
+use mathlib.Core.Path.{sym, ap, _∙_}
 use Rattle.model.specs.declared.Answer.{Answer}
 use Rattle.model.specs.Answers.{answer-numbers}
 

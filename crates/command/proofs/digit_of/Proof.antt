@@ -1,9 +1,8 @@
 -- `digit_of`: by the two bounds.
 use Rattle.command.proofs.digit_of.Statement.{statement}
 use Rattle.command.proofs.digit_of.Tie as tie
-use mathlib.Core.Path.{_≡_, refl, ap, sym, _∙_}
 use native.Mathlib.Omega.{arith}
-use Rattle.base.specs.Tests.{eq-true, neq-false, lt-true, lt-false, le-true, le-false}
+use Rattle.base.specs.Tests.{lt-true, lt-false}
 use Rattle.command.specs.Lines.{digit-of}
 
 returns : tie.Need-returns

@@ -2,9 +2,8 @@
 use borrow.Author.Needs.{needs}
 use Rattle.command.proofs.letter_step.Statement.{statement}
 use Rattle.command.proofs.letter_step.Tie as tie
-use mathlib.Core.Path.{_≡_, refl, ap, sym, _∙_}
-use native.Mathlib.Omega.{arith}
-use Rattle.base.specs.Tests.{eq-true, neq-false, lt-true, lt-false, le-true, le-false}
+use mathlib.Core.Path.{_∙_}
+use Rattle.base.specs.Tests.{eq-true, neq-false}
 use Rattle.command.specs.Lines.{letter-step}
 
 no-command-requires : tie.Need-no-command-requires

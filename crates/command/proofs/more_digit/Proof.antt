@@ -2,9 +2,9 @@
 use borrow.Author.Needs.{needs}
 use Rattle.command.proofs.more_digit.Statement.{statement}
 use Rattle.command.proofs.more_digit.Tie as tie
-use mathlib.Core.Path.{_≡_, refl, ap, sym, _∙_}
+use mathlib.Core.Path.{_∙_}
 use native.Mathlib.Omega.{arith}
-use Rattle.base.specs.Tests.{eq-true, neq-false, lt-true, lt-false, le-true, le-false}
+use Rattle.base.specs.Tests.{le-true, le-false}
 use Prim.Native.Nat.{_+_, _*_}
 use Rattle.command.specs.Lines.{more-digit}
 

@@ -1,9 +1,7 @@
 -- `whole`: by the place.
 use Rattle.command.proofs.whole.Statement.{statement}
 use Rattle.command.proofs.whole.Tie as tie
-use mathlib.Core.Path.{_≡_, refl, ap, sym, _∙_}
-use native.Mathlib.Omega.{arith}
-use Rattle.base.specs.Tests.{eq-true, neq-false, lt-true, lt-false, le-true, le-false}
+use Rattle.base.specs.Tests.{eq-true, neq-false}
 use Rattle.command.specs.Commands.{whole}
 
 returns : tie.Need-returns

@@ -1,9 +1,7 @@
 -- `with_three`: one letter.
 use Rattle.command.proofs.with_three.Statement.{statement}
 use Rattle.command.proofs.with_three.Tie as tie
-use mathlib.Core.Path.{_≡_, refl, ap, sym, _∙_}
-use native.Mathlib.Omega.{arith}
-use Rattle.base.specs.Tests.{eq-true, neq-false, lt-true, lt-false, le-true, le-false}
+use Rattle.base.specs.Tests.{eq-true, neq-false}
 use Rattle.command.specs.Commands.{with-three}
 
 returns : tie.Need-returns

@@ -2,8 +2,7 @@
 use borrow.Author.Needs.{needs}
 use Rattle.console.proofs.cut_and_restart.Statement.{statement}
 use Rattle.console.proofs.cut_and_restart.Tie as tie
-use Rattle.lend.specs.Lent.{lent}
-use Rattle.console.specs.Obeyed.{obeyed-as, restarted}
+use Rattle.console.specs.Obeyed.{restarted}
 
 zero-requires : tie.Need-zero-requires
 zero-requires c κs = search needs

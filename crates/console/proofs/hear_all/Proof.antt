@@ -2,8 +2,7 @@
 use Rattle.console.proofs.hear_all.Statement.{statement}
 use Rattle.console.proofs.hear_all.Tie as tie
 use borrow.Author.Needs.{needs}
-use mathlib.Core.Path.{_≡_, refl}
-use native.Mathlib.Omega.{arith}
+use mathlib.Core.Path.{_≡_}
 use lib.ListN.{length}
 
 abbrev Inv-loop : tie.InvT-loop

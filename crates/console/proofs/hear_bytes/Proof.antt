@@ -3,7 +3,7 @@ use Rattle.console.proofs.hear_bytes.Statement.{statement}
 use Rattle.console.proofs.hear_bytes.Tie as tie
 use borrow.Author.Needs.{needs}
 use Prim.Native.Nat.{_-_, _≤_}
-use mathlib.Core.Path.{_≡_, refl}
+use mathlib.Core.Path.{_≡_}
 use native.Mathlib.Omega.{arith}
 use lib.ListN.{length}
 

@@ -3,7 +3,7 @@ use borrow.Author.Needs.{needs}
 use Rattle.console.proofs.obey.Statement.{statement}
 use Rattle.console.proofs.obey.Tie as tie
 use Rattle.lend.specs.Lent.{lent}
-use Rattle.console.specs.Obeyed.{obeyed-as, restarted}
+use Rattle.console.specs.Obeyed.{obeyed-as}
 use mathlib.Core.Path.{refl}
 
 enum-told : tie.Need-enum-told

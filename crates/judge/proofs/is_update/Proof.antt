@@ -3,13 +3,9 @@ use borrow.Author.Needs.{needs}
 use Rattle.judge.proofs.is_update.Statement.{statement}
 use Rattle.judge.proofs.is_update.Tie as tie
 use native.Mathlib.Omega.{arith}
-use mathlib.Core.Path.{sym, ap, _∙_}
-use mathlib.Core.List.{List}
-use Prim.Native.Nat.{ℕ}
-use lib.ListN.{length}
+use mathlib.Core.Path.{sym, _∙_}
 use Rattle.base.specs.Tests.{clash}
-use Rattle.layout.specs.Numbers.{same-bytes, zeros}
-use Rattle.bytes.specs.Words.{part}
+use Rattle.layout.specs.Numbers.{zeros}
 use Rattle.judge.specs.Updates.{update-so, tail-clear}
 
 get32-requires : tie.Need-get32-requires
