@@ -3,16 +3,16 @@ use mathlib.Core.Path.{_≡_, sym, subst}
 use Prim.Native.Nat.{ℕ}
 use mathlib.Core.List.{List}
 use lib.ListN.{length}
-use Rattle.layout.specs.declared.Desk.{Desk}
-use Rattle.layout.specs.Desks.{empty-desk}
-use Rattle.layout.specs.Numbers.{zeros}
-use Rattle.model.specs.declared.Answer.the-variants.{Done}
-use Rattle.model.specs.OnBytes.{Lent, Call, call, begin, insert, delete, fetch, next, commit, abort, write-out, restart}
-use Rattle.lend.specs.Lent.{lent}
-use Rattle.replies.specs.declared.Reply.{Reply}
-use Rattle.replies.specs.Replies.{Replies}
-use Rattle.command.specs.declared.Command.{Command}
-use Rattle.command.specs.declared.Command.the-variants.{Begin, Insert, Delete, Fetch, Next, Commit, Abort, WriteOut, Cut, Other}
+use Rattle.def_layout.specs.declared.Desk.{Desk}
+use Rattle.def_layout.specs.Desks.{empty-desk}
+use Rattle.def_layout.specs.Numbers.{zeros}
+use Rattle.def_model.specs.declared.Answer.the-variants.{Done}
+use Rattle.def_model.specs.OnBytes.{Lent, Call, call, begin, insert, delete, fetch, next, commit, abort, write-out, restart}
+use Rattle.area_lengths.specs.Lent.{lent}
+use Rattle.call_reply.specs.declared.Reply.{Reply}
+use Rattle.call_reply.specs.Replies.{Replies}
+use Rattle.face_command.specs.declared.Command.{Command}
+use Rattle.face_command.specs.declared.Command.the-variants.{Begin, Insert, Delete, Fetch, Next, Commit, Abort, WriteOut, Cut, Other}
 
 -- A call, all of whose stores are carried out.
 abbrev pub Made : Call → Lent → Desk → Reply → Lent → Type 0

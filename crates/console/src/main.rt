@@ -1,20 +1,19 @@
 // The console: 64 pages and 160 slots, formatted; then one command a line from standard input, to its end, and one line for each.
-use bytes::zero;
-use command::Command;
-use command::Line;
-use command::command_of;
-use command::new_line;
-use command::step;
-use desk::idle_desk;
-use layout::Desk;
+use call_reply::Reply;
+use codec_bytes::zero;
+use codec_desk::idle_desk;
+use def_layout::Desk;
+use def_model::Answer;
+use face_command::Command;
+use face_command::Line;
+use face_command::command_of;
+use face_command::new_line;
+use face_command::step;
 use libc::STDIN_FILENO;
 use libc::STDOUT_FILENO;
-use model::Answer;
-use replies::Reply;
-ghost use mathlib.Core.Path.{_≡_};
-ghost use Rattle.layout.specs.Desks.{empty-desk};
-ghost use Rattle.lend.specs.Lent.{lent};
-ghost use Rattle.command.specs.declared.Command.the-variants.{Cut};
+ghost use Rattle.def_layout.specs.Desks.{empty-desk};
+ghost use Rattle.area_lengths.specs.Lent.{lent};
+ghost use Rattle.face_command.specs.declared.Command.the-variants.{Cut};
 ghost use Rattle.console.specs.Obeyed.{Obeyed};
 
 // What the console knows between two bytes: the line so far, the desk, and whether there may be more to read.
@@ -29,7 +28,7 @@ fn cut_and_restart(wp: &mut [u8], sp: &mut [u8], wl: &mut [u8], sl: &mut [u8]) -
 {
     zero(wp);
     zero(wl);
-    register::restart(wp, sp, wl, sl, idle_desk(0))
+    call_register::restart(wp, sp, wl, sl, idle_desk(0))
 }
 
 // A command carried out.
@@ -37,8 +36,8 @@ fn obey(wp: &mut [u8], sp: &mut [u8], wl: &mut [u8], sl: &mut [u8], d: Desk, c: 
     ensures { λ r. ⌜ Obeyed c (lent (now (wp .entry)) (now (sp .entry)) (now (wl .entry)) (now (sl .entry))) d r (lent (now (wp .exit)) (now (sp .exit)) (now (wl .exit)) (now (sl .exit))) ⌝ }
 {
     match c {
-        Command::Begin => register::begin(wp, sp, wl, sl, d),
-        Command::Insert { batch, key, value } => register::insert(
+        Command::Begin => call_register::begin(wp, sp, wl, sl, d),
+        Command::Insert { batch, key, value } => call_register::insert(
             wp,
             sp,
             wl,
@@ -48,12 +47,12 @@ fn obey(wp: &mut [u8], sp: &mut [u8], wl: &mut [u8], sl: &mut [u8], d: Desk, c: 
             key,
             value,
         ),
-        Command::Delete { batch, key } => register::delete(wp, sp, wl, sl, d, batch, key),
-        Command::Fetch { batch, key } => register::fetch(wp, sp, wl, sl, d, batch, key),
-        Command::Next { batch, key } => register::next(wp, sp, wl, sl, d, batch, key),
-        Command::Commit { batch } => register::commit(wp, sp, wl, sl, d, batch),
-        Command::Abort { batch } => register::abort(wp, sp, wl, sl, d, batch),
-        Command::WriteOut { page } => register::write_out(wp, sp, wl, sl, d, page),
+        Command::Delete { batch, key } => call_register::delete(wp, sp, wl, sl, d, batch, key),
+        Command::Fetch { batch, key } => call_register::fetch(wp, sp, wl, sl, d, batch, key),
+        Command::Next { batch, key } => call_register::next(wp, sp, wl, sl, d, batch, key),
+        Command::Commit { batch } => call_register::commit(wp, sp, wl, sl, d, batch),
+        Command::Abort { batch } => call_register::abort(wp, sp, wl, sl, d, batch),
+        Command::WriteOut { page } => call_register::write_out(wp, sp, wl, sl, d, page),
         Command::Cut => cut_and_restart(wp, sp, wl, sl),
         Command::Other => Reply {
             answer: Answer::Done,
@@ -62,20 +61,20 @@ fn obey(wp: &mut [u8], sp: &mut [u8], wl: &mut [u8], sl: &mut [u8], d: Desk, c: 
     }
 }
 
-fn print_letter(c: Command) {
+// 01's letter of a command; '?' of any other line.
+fn letter_of(c: Command) -> u8 {
     match c {
-        Command::Begin => io::write_all(STDOUT_FILENO, b"B"),
-        Command::Insert { .. } => io::write_all(STDOUT_FILENO, b"I"),
-        Command::Delete { .. } => io::write_all(STDOUT_FILENO, b"D"),
-        Command::Fetch { .. } => io::write_all(STDOUT_FILENO, b"F"),
-        Command::Next { .. } => io::write_all(STDOUT_FILENO, b"N"),
-        Command::Commit { .. } => io::write_all(STDOUT_FILENO, b"C"),
-        Command::Abort { .. } => io::write_all(STDOUT_FILENO, b"A"),
-        Command::WriteOut { .. } => io::write_all(STDOUT_FILENO, b"W"),
-        Command::Cut => io::write_all(STDOUT_FILENO, b"X"),
-        Command::Other => io::write_all(STDOUT_FILENO, b"?"),
+        Command::Begin => b'B',
+        Command::Insert { .. } => b'I',
+        Command::Delete { .. } => b'D',
+        Command::Fetch { .. } => b'F',
+        Command::Next { .. } => b'N',
+        Command::Commit { .. } => b'C',
+        Command::Abort { .. } => b'A',
+        Command::WriteOut { .. } => b'W',
+        Command::Cut => b'X',
+        Command::Other => b'?',
     }
-    ;
 }
 
 fn print_number(n: u32) {
@@ -85,7 +84,7 @@ fn print_number(n: u32) {
 
 // 0 or the refusal, then any answers.
 fn print_answer(a: Answer) {
-    print_number(answers::reason_of(a));
+    print_number(face_answers::reason_of(a));
     match a {
         Answer::Number(x) => print_number(x),
         Answer::Pair(x, y) => {
@@ -107,20 +106,15 @@ fn answer_line(
 ) -> Desk {
     let c = command_of(l);
     let y = obey(wp, sp, wl, sl, d, c);
-    print_letter(c);
+    let x = letter_of(c);
+    let letter = [x];
+    io::write_all(STDOUT_FILENO, &letter);
     let a = y.answer;
-    if is_known(c) {
+    if x != b'?' {
         print_answer(a);
     }
     io::write_all(STDOUT_FILENO, b"\n");
     y.desk
-}
-
-fn is_known(c: Command) -> bool {
-    match c {
-        Command::Other => false,
-        _ => true,
-    }
 }
 
 // One byte: a line's end, or one more of the line.
@@ -190,7 +184,7 @@ fn hear_all(wp: &mut [u8], sp: &mut [u8], wl: &mut [u8], sl: &mut [u8], h: Heard
 
 // A new register, and nothing read yet.
 fn begun(wp: &mut [u8], sp: &mut [u8], wl: &mut [u8], sl: &mut [u8]) -> Heard {
-    let y = register::format(wp, sp, wl, sl, idle_desk(0));
+    let y = call_register::format(wp, sp, wl, sl, idle_desk(0));
     let d = y.desk;
     Heard {
         line: new_line(),

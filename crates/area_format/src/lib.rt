@@ -1,0 +1,98 @@
+// Formatting: the working areas become a register without slides and its empty log, which are then stored.
+use area_store::store_pages;
+use area_store::store_slots;
+use codec_bytes::zero;
+use codec_page::Page;
+use codec_page::write_at;
+use def_layout::Entry;
+use def_layout::PAGE_SIZE;
+use def_layout::ROOM;
+use def_layout::SLOT_SIZE;
+ghost use mathlib.Core.Path.{_≡_};
+ghost use mathlib.Core.List.{[], map};
+ghost use Prim.Native.Nat.{_-_, _*_, _/_, _≤_, min};
+ghost use lib.ListN.{length, replicate};
+ghost use Rattle.def_layout.specs.Sizes.{page-size, slot-size};
+ghost use Rattle.def_layout.specs.Entries.{top};
+ghost use Rattle.def_layout.specs.Pages.{map-page, first-marks, node-at};
+ghost use Rattle.def_layout.specs.PageBytes.{page};
+ghost use Rattle.def_layout.specs.RecordBytes.{empty};
+ghost use Rattle.def_model.specs.Calls.{formatted-pages};
+ghost use Rattle.def_model.specs.OnBytes.{pages-bytes, log-bytes};
+ghost use Rattle.codec_page.specs.Typed.{typed};
+ghost use Rattle.area_lengths.specs.Lent.{lent, Sized};
+ghost use Rattle.area_store.specs.Runs.{copied};
+ghost use Rattle.area_format.specs.Formatted.{Formatted};
+
+// The map, which marks itself and the root.
+fn first_map() -> Page
+    ensures { λ r. ⌜ typed r ≡ map-page first-marks ⌝ }
+{
+    let mut es = [Entry { key: 0, val: 0 }; ROOM];
+    es[0] = Entry {
+        key: 3221225472,
+        val: 0,
+    };
+    Page {
+        kind: 3,
+        level: 0,
+        count: 0,
+        right: 0,
+        high: 0,
+        lsn: 0,
+        own: 0,
+        entries: es,
+    }
+}
+
+// The root: a leaf of all keys, with no entry.
+fn first_root() -> Page
+    ensures { λ r. ⌜ typed r ≡ node-at 1 0 0 top [] ⌝ }
+{
+    Page {
+        kind: 1,
+        level: 0,
+        count: 0,
+        right: 0,
+        high: 4294967295,
+        lsn: 0,
+        own: 1,
+        entries: [Entry { key: 0, val: 0 }; ROOM],
+    }
+}
+
+fn format_pages(wp: &mut [u8])
+    requires { ⌜ (length (now wp) ≡ page-size * (length (now wp) / page-size)) × (16 ≤ length (now wp) / page-size) ⌝ }
+    ensures { λ _. ⌜ now (wp .exit) ≡ pages-bytes (map page (formatted-pages (length (now (wp .entry)) / page-size))) ⌝ }
+{
+    zero(wp);
+    write_at(wp, 0, first_map());
+    write_at(wp, PAGE_SIZE, first_root());
+}
+
+fn format_work(wp: &mut [u8], wl: &mut [u8])
+    requires { ⌜ (length (now wp) ≡ page-size * (length (now wp) / page-size)) × (16 ≤ length (now wp) / page-size) × (length (now wl) ≡ slot-size * (length (now wl) / slot-size)) ⌝ }
+    ensures { λ _. ⌜ (now (wp .exit) ≡ pages-bytes (map page (formatted-pages (length (now (wp .entry)) / page-size)))) × (now (wl .exit) ≡ log-bytes (replicate (length (now (wl .entry)) / slot-size) empty)) ⌝ }
+{
+    format_pages(wp);
+    zero(wl);
+}
+
+// 01: "storing pages, then slots, in order".
+fn store_formatted(sp: &mut [u8], sl: &mut [u8], wp: &[u8], wl: &[u8], budget: usize)
+    requires { ⌜ Sized (now wp) (now sp) (now wl) (now sl) ⌝ }
+    ensures { λ _. ⌜ (now (sp .exit) ≡ copied (now (sp .entry)) (now (wp .entry)) 0 (page-size * min budget (length (now (wp .entry)) / page-size)))
+        × (now (sl .exit) ≡ copied (now (sl .entry)) (now (wl .entry)) 0 (slot-size * min (budget - length (now (wp .entry)) / page-size) (length (now (wl .entry)) / slot-size))) ⌝ }
+{
+    let left = store_pages(sp, wp, 0, wp.len() / PAGE_SIZE, budget);
+    store_slots(sl, wl, 0, wl.len() / SLOT_SIZE, left);
+}
+
+// 01's format: the working areas, and of its stores as many as the budget lasts for.
+pub fn format(wp: &mut [u8], sp: &mut [u8], wl: &mut [u8], sl: &mut [u8], budget: usize)
+    requires { ⌜ Sized (now wp) (now sp) (now wl) (now sl) ⌝ }
+    ensures { λ _. ⌜ Formatted budget (lent (now (wp .entry)) (now (sp .entry)) (now (wl .entry)) (now (sl .entry))) (lent (now (wp .exit)) (now (sp .exit)) (now (wl .exit)) (now (sl .exit))) ⌝ }
+{
+    format_work(wp, wl);
+    store_formatted(sp, sl, wp, wl, budget);
+}

@@ -1,0 +1,126 @@
+// The calls that end a batch, or store: commit, abort and write-out.
+use area_store::store_all;
+use area_store::store_slots;
+use call_reply::Reply;
+use call_reply::refused;
+use call_slides::live_row;
+use call_undo::abort_run;
+use codec_desk::closed;
+use def_layout::Desk;
+use def_model::Answer;
+use def_model::Refusal;
+use sound_register::Standing;
+use tree_write::Run;
+use tree_write::note;
+ghost use mathlib.Core.Path.{_≡_};
+ghost use mathlib.Core.List.{List};
+ghost use Prim.Native.Nat.{ℕ, _*_, _≤_, _<_};
+ghost use lib.ListN.{length};
+ghost use Rattle.def_layout.specs.Sizes.{page-size, slot-size, most-pages, most-slots};
+ghost use Rattle.def_model.specs.OnBytes as calls;
+ghost use Rattle.area_lengths.specs.Lent.{lent};
+ghost use Rattle.call_reply.specs.Replies.{Replies};
+ghost use Rattle.call_slides.specs.Given.{Given};
+
+// "Commit logs and then stores every unstored record, in order": as many stores as the budget has.
+pub fn commit_in(
+    wl: &mut [u8],
+    sl: &mut [u8],
+    m: usize,
+    d: Desk,
+    st: Standing,
+    b: u32,
+    budget: usize,
+) -> Reply
+    requires { ⌜ (length (now wl) ≡ slot-size * m) × (m ≤ most-slots) × (length (now sl) ≡ slot-size * m) × (d .stored ≤ d .logged) × (d .logged ≤ m) ⌝ }
+    ensures { λ r.
+        ⌜ ((n : ℕ) (wp sp : List ℕ) → Given n m wp sp (now (wl .entry)) (now (sl .entry)) d st
+        → Replies (calls.commit b) (lent wp sp (now (wl .entry)) (now (sl .entry))) d budget r (lent wp sp (now (wl .exit)) (now (sl .exit)))) ⌝ }
+{
+    let marked = st.marked;
+    let i = live_row(d, marked, b);
+    if i == 8 {
+        return refused(Refusal::NoBatch, d);
+    }
+    let t = Run {
+        logged: d.logged,
+        stop: 0,
+    };
+    let last = d.rows[i].last;
+    let u = note(wl, m, t, 6, b, last);
+    store_slots(sl, wl, d.stored as usize, u.logged as usize, budget);
+    let rows = d.rows;
+    let desk = d.with_rows(closed(rows, i));
+    Reply {
+        answer: Answer::Done,
+        desk: desk.with_logged(u.logged).with_stored(u.logged),
+    }
+}
+
+// "Abort writes a 7, undoes newest first, always from the root, then writes an 8."
+pub fn abort_in(
+    wp: &mut [u8],
+    wl: &mut [u8],
+    n: usize,
+    m: usize,
+    d: Desk,
+    st: Standing,
+    b: u32,
+) -> Reply
+    requires { ⌜ (length (now wp) ≡ page-size * n) × (n ≤ most-pages) × (length (now wl) ≡ slot-size * m) × (m ≤ most-slots) ⌝ }
+    ensures { λ r.
+        ⌜ ((budget : ℕ) (sp sl : List ℕ) → Given n m (now (wp .entry)) sp (now (wl .entry)) sl d st
+        → Replies (calls.abort b) (lent (now (wp .entry)) sp (now (wl .entry)) sl) d budget r (lent (now (wp .exit)) sp (now (wl .exit)) sl)) ⌝ }
+{
+    let marked = st.marked;
+    let i = live_row(d, marked, b);
+    if i == 8 {
+        return refused(Refusal::NoBatch, d);
+    }
+    let t = Run {
+        logged: d.logged,
+        stop: 0,
+    };
+    let row = d.rows[i];
+    let u = abort_run(wp, wl, n, m, t, row);
+    let rows = d.rows;
+    let desk = d.with_rows(closed(rows, i));
+    Reply {
+        answer: Answer::Done,
+        desk: desk.with_logged(u.logged),
+    }
+}
+
+// "Write-out does the same, then stores one page."
+pub fn write_out_in(
+    wp: &[u8],
+    sp: &mut [u8],
+    wl: &[u8],
+    sl: &mut [u8],
+    n: usize,
+    m: usize,
+    d: Desk,
+    p: u32,
+    budget: usize,
+) -> Reply
+    requires { ⌜ (length (now wp) ≡ page-size * n) × (n ≤ most-pages) × (length (now sp) ≡ page-size * n) × (length (now wl) ≡ slot-size * m) × (m ≤ most-slots) × (length (now sl) ≡ slot-size * m) × (d .stored ≤ d .logged) × (d .logged ≤ m) × (p < n) ⌝ }
+    ensures { λ r.
+        ⌜ ((st : Standing) → Given n m (now (wp .entry)) (now (sp .entry)) (now (wl .entry)) (now (sl .entry)) d st
+        → Replies (calls.write-out p) (lent (now (wp .entry)) (now (sp .entry)) (now (wl .entry)) (now (sl .entry))) d budget r (lent (now (wp .entry)) (now (sp .exit)) (now (wl .entry)) (now (sl .exit)))) ⌝ }
+{
+    store_all(
+        sp,
+        sl,
+        wp,
+        wl,
+        d.stored as usize,
+        d.logged as usize,
+        p as usize,
+        budget,
+    );
+    let logged = d.logged;
+    Reply {
+        answer: Answer::Done,
+        desk: d.with_stored(logged),
+    }
+}

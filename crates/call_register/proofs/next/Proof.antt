@@ -1,0 +1,15 @@
+-- `next`: refused at the entry, or the call on a sound register.
+use borrow.Author.Needs.{needs}
+use Rattle.call_register.proofs.next.Statement.{statement}
+use Rattle.call_register.proofs.next.Tie as tie
+use mathlib.Core.Path.{refl}
+
+pub next-spec : {M : Type 1} → statement M
+next-spec =
+    tie.close
+    (tie.spec
+    (λ c κs. search needs)
+    (λ c κs. search needs)
+    (λ c budget. c .before .before .enter .ensures .refuses (c .before .if1 .taken) _ budget _ (c .refused .ensures) refl)
+    (λ c κs. let z = c .before .enter .ensures .sizes (c .if1 .left) .0 in (z .0, z .1, z .3, z .4))
+    (λ c budget. c .next-in .ensures budget _ _ _ (c .before .before .enter .ensures .given (c .before .if1 .left))))

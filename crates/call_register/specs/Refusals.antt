@@ -1,0 +1,105 @@
+-- Refusals 1, 2 and 11, which come before every other.
+use mathlib.Core.Path.{_≡_, refl, ap, sym, _∙_}
+use Prim.Native.Nat.{ℕ, _/_, _≤_, _<_}
+use native.Mathlib.Omega.{arith}
+use mathlib.Core.Bool.{true, false}
+use mathlib.Core.Option.{Option, none, some}
+use mathlib.Core.List.{List}
+use lib.ListN.{length}
+use Rattle.def_base.specs.Tests.{le-true, le-false, none-some, some-inj}
+use Rattle.def_layout.specs.declared.Desk.{Desk}
+use Rattle.def_layout.specs.Desks.{empty-desk}
+use Rattle.def_model.specs.declared.Refusal.{Refusal}
+use Rattle.def_model.specs.declared.Refusal.the-variants.{PageNumber, Unsound, Lengths}
+use Rattle.def_model.specs.declared.Answer.the-variants.{Done, Refused}
+use Rattle.def_model.specs.Answers.{first-broken}
+use Rattle.def_model.specs.Areas.{Areas}
+use Rattle.def_model.specs.Sound.{sound}
+use Rattle.def_model.specs.Calls.{begin-checks, fetch-checks, next-checks, insert-checks, delete-checks, commit-checks, abort-checks, write-out-checks}
+use Rattle.def_model.specs.OnBytes.{Call, Lent, Result, format, restart, begin, fetch, next, insert, delete, commit, abort, write-out, lengths-ok, refused-desk, read-areas}
+use Rattle.law_areas.specs.Pages.{read-pages-length}
+use Rattle.area_lengths.specs.Lent.{lent, Sized, lengths-numbers}
+use Rattle.area_format.specs.Formatted.{Formatted}
+use Rattle.area_format.specs.Call.{format-result, format-left}
+use Rattle.call_reply.specs.declared.Reply.{Reply}
+use Rattle.call_reply.specs.Replies.{Replies, lengths-refused, left-alone}
+use Rattle.call_slides.specs.Checked.{checks, refused-first}
+
+-- The page that a call on a sound register names: page 0, which every register has, where it names none.
+abbrev pub names : Call → Option ℕ
+names format = none
+names restart = none
+names begin = some 0
+names (fetch b k) = some 0
+names (next b k) = some 0
+names (insert b k v) = some 0
+names (delete b k) = some 0
+names (commit b) = some 0
+names (abort b) = some 0
+names (write-out p) = some p
+
+-- What such a call has first: what it leaves of the desk, the page's number, and sound.
+record First (a : Areas) (d : Desk) (p : ℕ) (c : Call) : Type 0 where
+  kept : refused-desk c d ≡ d
+  past : 0 < length (a .work .pages) → length (a .work .pages) ≤ p → first-broken (checks c a d) ≡ some PageNumber
+  unsound : p < length (a .work .pages) → sound a d ≡ false → first-broken (checks c a d) ≡ some Unsound
+
+module _ (a : Areas) (d : Desk) (p : ℕ) where
+  -- A call that names page 0.
+  of : (c : Call) → some 0 ≡ some p → refused-desk c d ≡ d → (sound a d ≡ false → first-broken (checks c a d) ≡ some Unsound) → First a d p c
+  of c e k u = record { kept = k; past = λ h q. let z = some-inj e in absurd (omega arith); unsound = λ h bad. u bad }
+
+  first : (c : Call) → names c ≡ some p → First a d p c
+  unfolding refused-desk first-broken begin-checks fetch-checks next-checks insert-checks delete-checks commit-checks abort-checks write-out-checks
+  first format e = none-some e
+  first restart e = none-some e
+  first begin e = of begin e refl (λ bad. rw bad)
+  first (fetch b k) e = of (fetch b k) e refl (λ bad. rw bad)
+  first (next b k) e = of (next b k) e refl (λ bad. rw bad)
+  first (insert b k v) e = of (insert b k v) e refl (λ bad. rw bad)
+  first (delete b k) e = of (delete b k) e refl (λ bad. rw bad)
+  first (commit b) e = of (commit b) e refl (λ bad. rw bad)
+  first (abort b) e = of (abort b) e refl (λ bad. rw bad)
+  first (write-out q) e =
+      let s = some-inj e in
+      record {
+        kept = refl;
+        past = λ h n. rw (le-true (length (a .work .pages)) q (omega arith));
+        unsound = λ h bad. rw (le-false (length (a .work .pages)) q (omega arith), bad);
+      }
+
+module _ (wp sp wl sl : List ℕ) (d : Desk) (p budget : ℕ) (r : Reply) (c : Call) (named : names c ≡ some p) where
+  abbrev l : Lent
+  l = lent wp sp wl sl
+
+  firsts : First (read-areas l) d p c
+  firsts = first (read-areas l) d p c named
+
+  pub by-1 : lengths-ok l ≡ false → r .answer ≡ Refused Lengths → r .desk ≡ d → Replies c l d budget r l
+  by-1 e a k = lengths-refused c l d budget r e a (k ∙ sym (firsts .kept))
+
+  module _ (lens : lengths-ok l ≡ true) where
+    broken : (why : Refusal) → first-broken (checks c (read-areas l) d) ≡ some why → r .answer ≡ Refused why → r .desk ≡ d → Replies c l d budget r l
+    broken why e = left-alone c wp sp wl sl d lens (Refused why) budget r (refused-first (read-areas l) d c why e)
+
+    z : Sized wp sp wl sl
+    z = lengths-numbers wp sp wl sl lens
+
+    count : length (read-areas l .work .pages) ≡ length wp / 128
+    unfolding read-areas
+    count = read-pages-length (length wp / 128) wp (z .0)
+
+    pub by-2 : length wp / 128 ≤ p → r .answer ≡ Refused PageNumber → r .desk ≡ d → Replies c l d budget r l
+    by-2 h = broken PageNumber (firsts .past (omega (arith, count, z .1)) (omega (arith, count)))
+
+    pub by-11 : p < length wp / 128 → sound (read-areas l) d ≡ false → r .answer ≡ Refused Unsound → r .desk ≡ d → Replies c l d budget r l
+    by-11 h bad = broken Unsound (firsts .unsound (omega (arith, count)) bad)
+
+-- FORMAT.
+pub format-0 : (l after : Lent) (d : Desk) (budget : ℕ) (r : Reply) → lengths-ok l ≡ true → Formatted budget l after → r .answer ≡ Done → r .desk ≡ empty-desk → Replies format l d budget r after
+format-0 l after d budget r lens f a k =
+    record {
+      answer = a ∙ ap (λ (x : Result). x .answer) (sym (format-result l d lens));
+      desk = k ∙ ap (λ (x : Result). x .desk) (sym (format-result l d lens));
+      areas = format-left budget l after d lens f;
+    }

@@ -1,0 +1,256 @@
+// The register's calls on lent areas of any lengths and any bytes.
+use area_format::format as formatted;
+use area_lengths::lengths_ok;
+use call_finish::abort_in;
+use call_finish::commit_in;
+use call_finish::write_out_in;
+use call_reply::Reply;
+use call_reply::refused;
+use call_restart::restart_within;
+use call_slides::begin_in;
+use call_slides::delete_in;
+use call_slides::fetch_in;
+use call_slides::insert_in;
+use call_slides::next_in;
+use codec_desk::idle_desk;
+use def_layout::Desk;
+use def_layout::PAGE_SIZE;
+use def_layout::SLOT_SIZE;
+use def_model::Answer;
+use def_model::Refusal;
+use sound_register::Standing;
+use sound_register::standing_of;
+ghost use mathlib.Core.Path.{_≡_};
+ghost use mathlib.Core.Bool.{true};
+ghost use Prim.Native.Nat.{ℕ};
+ghost use lib.ListN.{length};
+ghost use Rattle.def_model.specs.OnBytes as calls;
+ghost use Rattle.area_lengths.specs.Lent.{lent};
+ghost use Rattle.call_reply.specs.Replies.{Replies};
+ghost use Rattle.call_register.specs.Entered.{Entered};
+
+// What a call finds first: that it is refused, and why; or how many pages and slots there are, and where the register stands.
+struct Entry {
+    refused: bool,
+    why: Refusal,
+    pages: usize,
+    slots: usize,
+    standing: Standing,
+}
+
+fn barred(why: Refusal) -> Entry
+    ensures { λ e. ⌜ (e .refused ≡ true) × (e .why ≡ why) ⌝ }
+{
+    let standing = Standing {
+        ok: false,
+        marked: [false; 8],
+        pending: 0,
+        free: 0,
+    };
+    Entry {
+        refused: true,
+        why,
+        pages: 0,
+        slots: 0,
+        standing,
+    }
+}
+
+// Refusals 1, 2 and 11. A call that names no page names page 0, which every register has.
+fn enter(wp: &[u8], sp: &[u8], wl: &[u8], sl: &[u8], d: Desk, p: u32) -> Entry
+    ensures { λ e. ⌜ Entered (now (wp .entry)) (now (sp .entry)) (now (wl .entry)) (now (sl .entry)) d p e ⌝ }
+{
+    if !lengths_ok(wp, sp, wl, sl) {
+        return barred(Refusal::Lengths);
+    }
+    let pages = wp.len() / PAGE_SIZE;
+    if p as usize >= pages {
+        return barred(Refusal::PageNumber);
+    }
+    let slots = wl.len() / SLOT_SIZE;
+    let standing = standing_of(wp, wl, sl, pages, slots, d);
+    if !standing.ok {
+        return barred(Refusal::Unsound);
+    }
+    Entry {
+        refused: false,
+        why: Refusal::Unsound,
+        pages,
+        slots,
+        standing,
+    }
+}
+
+// A new batch.
+pub fn begin(wp: &[u8], sp: &[u8], wl: &mut [u8], sl: &[u8], d: Desk) -> Reply
+    ensures { λ r. ⌜ ((budget : ℕ) → Replies calls.begin (lent (now (wp .entry)) (now (sp .entry)) (now (wl .entry)) (now (sl .entry))) d budget r (lent (now (wp .entry)) (now (sp .entry)) (now (wl .exit)) (now (sl .entry)))) ⌝ }
+{
+    let e = enter(wp, sp, wl, sl, d, 0);
+    if e.refused {
+        let why = e.why;
+        return refused(why, d);
+    }
+    let st = e.standing;
+    begin_in(wl, e.slots, d, st)
+}
+
+// A key's value.
+pub fn fetch(wp: &[u8], sp: &[u8], wl: &[u8], sl: &[u8], d: Desk, b: u32, k: u32) -> Reply
+    ensures { λ r. ⌜ ((budget : ℕ) → Replies (calls.fetch b k) (lent (now (wp .entry)) (now (sp .entry)) (now (wl .entry)) (now (sl .entry))) d budget r (lent (now (wp .entry)) (now (sp .entry)) (now (wl .entry)) (now (sl .entry)))) ⌝ }
+{
+    let e = enter(wp, sp, wl, sl, d, 0);
+    if e.refused {
+        let why = e.why;
+        return refused(why, d);
+    }
+    fetch_in(wp, wl, e.pages, e.slots, d, b, k)
+}
+
+// The first record above a key.
+pub fn next(wp: &[u8], sp: &[u8], wl: &[u8], sl: &[u8], d: Desk, b: u32, k: u32) -> Reply
+    ensures { λ r. ⌜ ((budget : ℕ) → Replies (calls.next b k) (lent (now (wp .entry)) (now (sp .entry)) (now (wl .entry)) (now (sl .entry))) d budget r (lent (now (wp .entry)) (now (sp .entry)) (now (wl .entry)) (now (sl .entry)))) ⌝ }
+{
+    let e = enter(wp, sp, wl, sl, d, 0);
+    if e.refused {
+        let why = e.why;
+        return refused(why, d);
+    }
+    next_in(wp, wl, e.pages, e.slots, d, b, k)
+}
+
+// A slide is filed.
+pub fn insert(
+    wp: &mut [u8],
+    sp: &[u8],
+    wl: &mut [u8],
+    sl: &[u8],
+    d: Desk,
+    b: u32,
+    k: u32,
+    v: u32,
+) -> Reply
+    ensures { λ r. ⌜ ((budget : ℕ) → Replies (calls.insert b k v) (lent (now (wp .entry)) (now (sp .entry)) (now (wl .entry)) (now (sl .entry))) d budget r (lent (now (wp .exit)) (now (sp .entry)) (now (wl .exit)) (now (sl .entry)))) ⌝ }
+{
+    let e = enter(wp, sp, wl, sl, d, 0);
+    if e.refused {
+        let why = e.why;
+        return refused(why, d);
+    }
+    let st = e.standing;
+    insert_in(wp, wl, e.pages, e.slots, d, st, b, k, v)
+}
+
+// A slide is taken out.
+pub fn delete(wp: &mut [u8], sp: &[u8], wl: &mut [u8], sl: &[u8], d: Desk, b: u32, k: u32) -> Reply
+    ensures { λ r. ⌜ ((budget : ℕ) → Replies (calls.delete b k) (lent (now (wp .entry)) (now (sp .entry)) (now (wl .entry)) (now (sl .entry))) d budget r (lent (now (wp .exit)) (now (sp .entry)) (now (wl .exit)) (now (sl .entry)))) ⌝ }
+{
+    let e = enter(wp, sp, wl, sl, d, 0);
+    if e.refused {
+        let why = e.why;
+        return refused(why, d);
+    }
+    let st = e.standing;
+    delete_in(wp, wl, e.pages, e.slots, d, st, b, k)
+}
+
+// A batch's slides stay: as many stores as the budget has.
+pub fn commit_within(
+    wp: &[u8],
+    sp: &[u8],
+    wl: &mut [u8],
+    sl: &mut [u8],
+    d: Desk,
+    b: u32,
+    budget: usize,
+) -> Reply
+    ensures { λ r. ⌜ Replies (calls.commit b) (lent (now (wp .entry)) (now (sp .entry)) (now (wl .entry)) (now (sl .entry))) d budget r (lent (now (wp .entry)) (now (sp .entry)) (now (wl .exit)) (now (sl .exit))) ⌝ }
+{
+    let e = enter(wp, sp, wl, sl, d, 0);
+    if e.refused {
+        let why = e.why;
+        return refused(why, d);
+    }
+    let st = e.standing;
+    commit_in(wl, sl, e.slots, d, st, b, budget)
+}
+
+// A batch's slides go.
+pub fn abort(wp: &mut [u8], sp: &[u8], wl: &mut [u8], sl: &[u8], d: Desk, b: u32) -> Reply
+    ensures { λ r. ⌜ ((budget : ℕ) → Replies (calls.abort b) (lent (now (wp .entry)) (now (sp .entry)) (now (wl .entry)) (now (sl .entry))) d budget r (lent (now (wp .exit)) (now (sp .entry)) (now (wl .exit)) (now (sl .entry)))) ⌝ }
+{
+    let e = enter(wp, sp, wl, sl, d, 0);
+    if e.refused {
+        let why = e.why;
+        return refused(why, d);
+    }
+    let st = e.standing;
+    abort_in(wp, wl, e.pages, e.slots, d, st, b)
+}
+
+// The log and then one page are stored: as many stores as the budget has.
+pub fn write_out_within(
+    wp: &[u8],
+    sp: &mut [u8],
+    wl: &[u8],
+    sl: &mut [u8],
+    d: Desk,
+    p: u32,
+    budget: usize,
+) -> Reply
+    ensures { λ r. ⌜ Replies (calls.write-out p) (lent (now (wp .entry)) (now (sp .entry)) (now (wl .entry)) (now (sl .entry))) d budget r (lent (now (wp .entry)) (now (sp .exit)) (now (wl .entry)) (now (sl .exit))) ⌝ }
+{
+    let e = enter(wp, sp, wl, sl, d, p);
+    if e.refused {
+        let why = e.why;
+        return refused(why, d);
+    }
+    write_out_in(wp, sp, wl, sl, e.pages, e.slots, d, p, budget)
+}
+
+// "Format empties all four areas to a map and an empty root leaf": as many stores as the budget has.
+pub fn format_within(
+    wp: &mut [u8],
+    sp: &mut [u8],
+    wl: &mut [u8],
+    sl: &mut [u8],
+    d: Desk,
+    budget: usize,
+) -> Reply
+    ensures { λ r. ⌜ Replies calls.format (lent (now (wp .entry)) (now (sp .entry)) (now (wl .entry)) (now (sl .entry))) d budget r (lent (now (wp .exit)) (now (sp .exit)) (now (wl .exit)) (now (sl .exit))) ⌝ }
+{
+    let desk = idle_desk(0);
+    if !lengths_ok(wp, sp, wl, sl) {
+        return refused(Refusal::Lengths, desk);
+    }
+    formatted(wp, sp, wl, sl, budget);
+    Reply {
+        answer: Answer::Done,
+        desk,
+    }
+}
+
+// ---- with all their stores
+
+pub fn format(wp: &mut [u8], sp: &mut [u8], wl: &mut [u8], sl: &mut [u8], d: Desk) -> Reply
+    ensures { λ r. ⌜ Replies calls.format (lent (now (wp .entry)) (now (sp .entry)) (now (wl .entry)) (now (sl .entry))) d (length (calls.call calls.format (lent (now (wp .entry)) (now (sp .entry)) (now (wl .entry)) (now (sl .entry))) d .stores)) r (lent (now (wp .exit)) (now (sp .exit)) (now (wl .exit)) (now (sl .exit))) ⌝ }
+{
+    format_within(wp, sp, wl, sl, d, 20000)
+}
+
+pub fn commit(wp: &[u8], sp: &[u8], wl: &mut [u8], sl: &mut [u8], d: Desk, b: u32) -> Reply
+    ensures { λ r. ⌜ Replies (calls.commit b) (lent (now (wp .entry)) (now (sp .entry)) (now (wl .entry)) (now (sl .entry))) d (length (calls.call (calls.commit b) (lent (now (wp .entry)) (now (sp .entry)) (now (wl .entry)) (now (sl .entry))) d .stores)) r (lent (now (wp .entry)) (now (sp .entry)) (now (wl .exit)) (now (sl .exit))) ⌝ }
+{
+    commit_within(wp, sp, wl, sl, d, b, 20000)
+}
+
+pub fn write_out(wp: &[u8], sp: &mut [u8], wl: &[u8], sl: &mut [u8], d: Desk, p: u32) -> Reply
+    ensures { λ r. ⌜ Replies (calls.write-out p) (lent (now (wp .entry)) (now (sp .entry)) (now (wl .entry)) (now (sl .entry))) d (length (calls.call (calls.write-out p) (lent (now (wp .entry)) (now (sp .entry)) (now (wl .entry)) (now (sl .entry))) d .stores)) r (lent (now (wp .entry)) (now (sp .exit)) (now (wl .entry)) (now (sl .exit))) ⌝ }
+{
+    write_out_within(wp, sp, wl, sl, d, p, 20000)
+}
+
+pub fn restart(wp: &mut [u8], sp: &[u8], wl: &mut [u8], sl: &mut [u8], d: Desk) -> Reply
+    ensures { λ r. ⌜ Replies calls.restart (lent (now (wp .entry)) (now (sp .entry)) (now (wl .entry)) (now (sl .entry))) d (length (calls.call calls.restart (lent (now (wp .entry)) (now (sp .entry)) (now (wl .entry)) (now (sl .entry))) d .stores)) r (lent (now (wp .exit)) (now (sp .entry)) (now (wl .exit)) (now (sl .exit))) ⌝ }
+{
+    restart_within(wp, sp, wl, sl, d, 20000)
+}

@@ -1,0 +1,86 @@
+-- WHAT A RESTART REPLIES: refused, with zeros in the working areas; or done, with the records that it wrote stored by a budget.
+use Prim.Native.Nat.{ℕ, zero, suc, _-_, _*_, _/_, _≤_, min}
+use mathlib.Core.Path.{_≡_, refl, sym, ap, ap₂, _∙_}
+use mathlib.Core.Bool.{true}
+use mathlib.Core.Option.{Option, none, some}
+use mathlib.Core.List.{List, []}
+use native.Mathlib.Omega.{arith}
+use lib.ListN.{length, replicate, take}
+use Rattle.def_layout.specs.declared.Desk.{Desk}
+use Rattle.def_layout.specs.Desks.{empty-desk, no-row}
+use Rattle.def_layout.specs.Numbers.{zeros}
+use Rattle.def_layout.specs.Sizes.{page-size, slot-size}
+use Rattle.def_layout.specs.Records.{Rec}
+use Rattle.def_model.specs.declared.Refusal.{Refusal}
+use Rattle.def_model.specs.declared.Answer.the-variants.{Pair, Refused}
+use Rattle.def_model.specs.Areas.{Areas, log-stores}
+use Rattle.def_model.specs.Answers.{first-broken}
+use Rattle.def_model.specs.Batches.{open-batches, desk-of}
+use Rattle.def_model.specs.Redo.{redo-count}
+use Rattle.def_model.specs.Restart.{stable-log, stable-pages, stable-slots, restarted, restart-checks, restart-by, restart-areas}
+use Rattle.def_model.specs.OnBytes.{Lent, restart, outcome, lengths-ok, read-areas, store-all-bytes}
+use Rattle.law_areas.specs.Pages.{read-pages-length, zero-pages-bytes}
+use Rattle.law_areas.specs.Logs.{read-log-length, empty-bytes, log-filled}
+use Rattle.law_areas.specs.Stores.{with-log}
+use Rattle.area_lengths.specs.Lent.{lent, Sized, lengths-numbers}
+use Rattle.area_store.specs.Runs.{copied}
+use Rattle.area_store.specs.WriteOut.{log-stored}
+use Rattle.tree_write.specs.declared.Run as run
+use Rattle.tree_write.specs.Shows.{Shows}
+use Rattle.call_reply.specs.declared.Reply.{Reply}
+use Rattle.call_reply.specs.Replies.{Replies, by-outcome, run-pages, run-log}
+use Rattle.theory_sound.specs.OfBytes.{readable}
+use Rattle.theory_sound.specs.RestartDesk.{restart-desk}
+
+module _ (wp sp wl sl : List ℕ) (d : Desk) (lens : lengths-ok (lent wp sp wl sl) ≡ true) (budget : ℕ) (r : Reply) where
+  abbrev l : Lent
+  l = lent wp sp wl sl
+
+  abbrev a : Areas
+  a = read-areas (lent wp sp wl sl)
+
+  by-first : (o : Option Refusal) → first-broken (restart-checks a) ≡ o → outcome restart a d ≡ restart-by o a
+  unfolding outcome restart-areas
+  by-first o e = ap (λ (x : Option Refusal). restart-by x a) e
+
+  unstored : (b : ℕ) → store-all-bytes (take b []) l ≡ l
+  unfolding store-all-bytes
+  unstored zero = refl
+  unstored (suc b) = refl
+
+  -- REFUSED by 3 to 18.
+  pub restart-refused : (why : Refusal) → first-broken (restart-checks a) ≡ some why → (wp′ wl′ : List ℕ) → wp′ ≡ zeros (length wp) → wl′ ≡ zeros (length wl) → r .answer ≡ Refused why → r .desk ≡ empty-desk
+      → Replies restart l d budget r (lent wp′ sp wl′ sl)
+  unfolding restart-by read-areas
+  restart-refused why e wp′ wl′ zp zl y k =
+      let z : Sized wp sp wl sl = lengths-numbers wp sp wl sl lens in
+      let s = unstored budget in
+      let np : page-size * length (a .work .pages) ≡ length wp = ap (λ (i : ℕ). page-size * i) (read-pages-length (length wp / page-size) wp (z .0)) ∙ sym (z .0) in
+      let nl : slot-size * length (a .work .log) ≡ length wl = ap (λ (i : ℕ). slot-size * i) (read-log-length (length wl / slot-size) wl (z .4)) ∙ sym (z .4) in
+      by-outcome restart wp sp wl sl d lens (restart-by (some why) a) budget r wp′ sp wl′ sl (by-first (some why) e) y k
+      (zero-pages-bytes (length (a .work .pages)) ∙ ap zeros np ∙ sym zp)
+      (empty-bytes (length (a .work .log)) ∙ ap zeros nl ∙ sym zl)
+      (ap (λ (x : Lent). x .stable-pages) s)
+      (ap (λ (x : Lent). x .stable-log) s)
+
+  -- DONE: no check is broken, and the areas show the run after its batches are settled.
+  module _ {n m : ℕ} {wp′ wl′ : List ℕ} (u : run.Run) (e : first-broken (restart-checks a) ≡ none) (f : stable-slots a ≡ m) (h : Shows n m wp′ wl′ u (restarted a)) where
+    pub restart-done : (ended count old : ℕ) (sl′ : List ℕ) → ended ≡ length (open-batches (stable-log a)) → count ≡ redo-count 1 (stable-log a) (stable-pages a) → old ≡ length (stable-log a)
+        → old ≤ u .logged → slot-size * u .logged ≤ length sl → sl′ ≡ copied sl wl′ (slot-size * old) (slot-size * min budget (u .logged - old)) → r .answer ≡ Pair ended count
+        → r .desk ≡ record { rows = replicate 8 no-row; logged = u .logged; stored = u .logged }
+        → Replies restart l d budget r (lent wp′ sp wl′ sl′)
+    unfolding restart-by
+    restart-done ended count old sl′ ee ec eo fewer room stored y k =
+        let log : List Rec = restarted a .log in
+        let n : length log ≡ u .logged = h .logged in
+        let s : store-all-bytes (take budget (log-stores (length (stable-log a)) log)) l ≡ with-log l (copied sl wl′ (slot-size * length (stable-log a)) (slot-size * min budget (length log - length (stable-log a)))) =
+        log-stored m (length (stable-log a)) budget log wl′ l (log-filled m log (h .log) (h .size)) (omega arith) (omega arith) in
+        let t : copied sl wl′ (slot-size * length (stable-log a)) (slot-size * min budget (length log - length (stable-log a))) ≡ sl′ =
+        ap₂ (λ (i j : ℕ). copied sl wl′ (slot-size * i) (slot-size * min budget (j - i))) (sym eo) n ∙ sym stored in
+        by-outcome restart wp sp wl sl d lens (restart-by none a) budget r wp′ sp wl′ sl′ (by-first none e)
+        (y ∙ ap₂ Pair ee ec)
+        (k ∙ sym (ap (desk-of log) n ∙ restart-desk a (readable l lens) e (u .logged) (u .logged) (sym n)))
+        (run-pages (stable-slots a) h)
+        (run-log f h)
+        (ap (λ (x : Lent). x .stable-pages) s)
+        (ap (λ (x : Lent). x .stable-log) s ∙ t)

@@ -1,0 +1,81 @@
+-- Fetch and next, reply by reply.
+use mathlib.Core.Path.{_≡_, ap, sym, _∙_}
+use Prim.Native.Nat.{ℕ, _<_, _≤_}
+use mathlib.Core.Bool.{true, false}
+use mathlib.Core.Option.{Option, none, some}
+use mathlib.Core.List.{List}
+use Rattle.def_layout.specs.declared.Entry.{Entry}
+use Rattle.def_layout.specs.declared.Desk.{Desk}
+use Rattle.def_layout.specs.Entries.{entry, top}
+use Rattle.def_model.specs.declared.Refusal.the-variants.{NoBatch, Held, Absent}
+use Rattle.def_model.specs.declared.Answer.the-variants.{Number, Pair, Refused}
+use Rattle.def_model.specs.Answers.{first-broken}
+use Rattle.def_model.specs.Fit.{found}
+use Rattle.def_model.specs.Lookup.{fetched, next-above}
+use Rattle.def_model.specs.Batches.{find-batch}
+use Rattle.def_model.specs.Pending.{held, held-between}
+use Rattle.def_model.specs.Sound.{work-pages, work-log, work-open}
+use Rattle.def_model.specs.Calls.{is-none, next-limit, fetch-checks, next-checks}
+use Rattle.def_model.specs.OnBytes.{fetch, next, outcome, read-areas}
+use Rattle.law_bytes.specs.PageAreas as shown
+use Rattle.record_pages.specs.Pages.{pages-shown}
+use Rattle.sound_pending.specs.Rows as pending
+use Rattle.sound_register.specs.declared.Standing.{Standing}
+use Rattle.sound_register.specs.Standing.{known-rows}
+use Rattle.call_slides.specs.Checked.{fetch-goes, next-goes}
+use Rattle.call_slides.specs.Given.{Given, areas, answer, refuse, Answers, open-place, open-none, open-some}
+
+module _ {n m : ℕ} {wp sp wl sl : List ℕ} {d : Desk} {st : Standing} (g : Given n m wp sp wl sl d st) where
+  -- What the bytes show is what the definitions read.
+  pub pages-read : shown.pages-of n wp ≡ work-pages (areas g)
+  unfolding read-areas
+  pages-read = pages-shown (g .known .pages)
+
+  pub fetched-read : (k : ℕ) (o : Option ℕ) → o ≡ fetched k (shown.pages-of n wp) → fetched k (work-pages (areas g)) ≡ o
+  fetched-read k o e = sym (e ∙ ap (fetched k) pages-read)
+
+  pub next-read : (k : ℕ) (o : Option Entry) → o ≡ next-above k (shown.pages-of n wp) → next-above k (work-pages (areas g)) ≡ o
+  next-read k o e = sym (e ∙ ap (next-above k) pages-read)
+
+  -- The log and the desk's rows, as held keys are looked for.
+  pub held-known : pending.Known m wl (d .rows) (work-log (areas g)) (work-open (areas g))
+  unfolding read-areas
+  held-known = known-rows (g .known)
+
+  module _ (b k i : ℕ) (e : i ≡ open-place b (d .rows)) where
+    pub fetch-12 : 8 ≤ i → Answers g (fetch b k) (Refused NoBatch)
+    unfolding fetch-checks first-broken
+    fetch-12 h = refuse g (fetch b k) NoBatch (rw (g .is-sound, open-none g b i e h))
+
+    pub next-12 : 8 ≤ i → Answers g (next b k) (Refused NoBatch)
+    unfolding next-checks first-broken
+    next-12 h = refuse g (next b k) NoBatch (rw (g .is-sound, open-none g b i e h))
+
+    module _ (h : i < 8) where
+      there : is-none (find-batch b (work-open (areas g))) ≡ false
+      there = open-some g b i e h
+
+      pub fetch-14 : held b k (work-open (areas g)) ≡ true → Answers g (fetch b k) (Refused Held)
+      unfolding fetch-checks first-broken
+      fetch-14 q = refuse g (fetch b k) Held (rw (g .is-sound, there, q))
+
+      module _ (q : held b k (work-open (areas g)) ≡ false) where
+        pub fetch-16 : fetched k (work-pages (areas g)) ≡ none → Answers g (fetch b k) (Refused Absent)
+        unfolding fetch-checks first-broken found
+        fetch-16 f = refuse g (fetch b k) Absent (rw (g .is-sound, there, q, f))
+
+        pub fetch-0 : (v : ℕ) → fetched k (work-pages (areas g)) ≡ some v → Answers g (fetch b k) (Number v)
+        unfolding outcome
+        fetch-0 v f = answer g (fetch b k) (Number v) (fetch-goes (areas g) d (g .is-sound) b k there v q f)
+
+      pub next-14 : (o : Option Entry) → next-above k (work-pages (areas g)) ≡ o → held-between b k (next-limit o) (work-open (areas g)) ≡ true → Answers g (next b k) (Refused Held)
+      unfolding next-checks first-broken
+      next-14 o f q = refuse g (next b k) Held (rw (g .is-sound, there, f, q))
+
+      pub next-16 : next-above k (work-pages (areas g)) ≡ none → held-between b k top (work-open (areas g)) ≡ false → Answers g (next b k) (Refused Absent)
+      unfolding next-checks first-broken next-limit is-none
+      next-16 f q = refuse g (next b k) Absent (rw (g .is-sound, there, f, q))
+
+      pub next-0 : (key v : ℕ) → next-above k (work-pages (areas g)) ≡ some (entry key v) → held-between b k key (work-open (areas g)) ≡ false → Answers g (next b k) (Pair key v)
+      unfolding outcome next-limit
+      next-0 key v f q = answer g (next b k) (Pair key v) (next-goes (areas g) d (g .is-sound) b k there (entry key v) f q)

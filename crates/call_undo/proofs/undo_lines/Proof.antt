@@ -1,0 +1,67 @@
+-- `undo_lines`: line after line, each read from the log as it has grown.
+use borrow.Author.Needs.{needs}
+use Rattle.call_undo.proofs.undo_lines.Statement.{statement}
+use Rattle.call_undo.proofs.undo_lines.Tie as tie
+use mathlib.Core.Path.{_≡_, refl, _∙_}
+use native.Mathlib.Omega.{arith}
+use lib.ListN.{length}
+use Rattle.call_undo.specs.Lines.{Undoes, undoes-start, undoes-on, undoes-end}
+
+abbrev Inv-loop : tie.InvT-loop
+Inv-loop wp₀ wl₀ n m batch newest count run₀ at₀ left₀ wp wl run at left = (length wp ≡ length wp₀) × (length wl ≡ length wl₀) × Undoes n m wp₀ wl₀ wp wl run₀ run batch at₀ left₀ at left
+
+abbrev μ-loop : tie.MeasureT-loop
+μ-loop wp₀ wl₀ n m batch newest count run₀ at₀ left₀ wp wl run at left = left
+
+loop-holds : tie.Need-loop-holds Inv-loop μ-loop
+loop-holds c = let a = c .before .before .args in (refl, refl, undoes-start (a .batch) (a .newest) (a .count))
+
+line-at-requires : tie.Need-line-at-requires Inv-loop μ-loop
+line-at-requires c κs =
+    let p = c .before .before .before .before .before .pre in
+    let i = c .before .before .loop .inv in
+    (omega (arith, p, i .1), p .3)
+
+undo-line-requires : tie.Need-undo-line-requires Inv-loop μ-loop
+undo-line-requires c κs =
+    let p = c .before .before .before .before .before .before .before .before .pre in
+    let i = c .before .before .before .before .before .loop .inv in
+    (omega (arith, p, i .0), p .1, omega (arith, p, i .1), p .3)
+
+loop-again : tie.Need-loop-again Inv-loop μ-loop
+loop-again c =
+    let a = c .before .before .before .before .before .before .before .before .before .before .before .before .before .args in
+    let l = c .before .before .before .before .before .before .before .before .before .before .loop in
+    let u = c .before .before .before .before .undo-line in (
+      u .kept .0 ∙ l .inv .0,
+      u .kept .1 .0 ∙ l .inv .1,
+      undoes-on (a .batch) (a .newest) (a .count) (l .at) (l .left) (l .inv .2) (u .result) (c .before .before .before .before .before .before .before .line-at .result) (λ z. omega (arith, z, c .before .before .before .before .before .before .before .before .before .loop-test .taken)) (c .before .before .before .before .before .before .before .line-at .ensures) (u .ensures),
+    )
+
+same-length : tie.Need-same-length Inv-loop μ-loop
+same-length c = c .before .loop .inv .0
+
+same-length-2 : tie.Need-same-length-2 Inv-loop μ-loop
+same-length-2 c = c .before .loop .inv .1
+
+returns : tie.Need-returns Inv-loop μ-loop
+returns c s l ys h g f k e q =
+    let a = c .before .before .before .before .args in
+    let i = c .before .loop in
+    undoes-end (a .batch) (a .newest) (a .count) (i .at) (i .left) (i .inv .2) (omega (arith, c .loop-test .left)) s l ys h g f k e q
+
+pub undo-lines-spec : {M : Type 1} → statement M
+undo-lines-spec =
+    tie.close
+    (tie.spec
+    Inv-loop
+    μ-loop
+    loop-holds
+    line-at-requires
+    undo-line-requires
+    (λ c. search needs)
+    (λ c. search needs)
+    loop-again
+    same-length
+    same-length-2
+    returns)

@@ -1,6 +1,0 @@
-pub mod Eights
-pub mod Shown
-pub mod Steps
-pub mod Families
-pub mod Ends
-pub mod Undos

@@ -1,0 +1,4 @@
+pub mod Typed
+pub mod Shown
+pub mod Judged
+pub mod Layouts

@@ -1,0 +1,312 @@
+// A page by value, read from and written to the 128 bytes where it stands.
+use codec_bytes::get32;
+use codec_bytes::set32;
+use codec_entries::blank_from;
+use codec_entries::children_fit;
+use codec_entries::read_entries;
+use codec_entries::write_entries;
+use def_layout::Entry;
+use def_layout::MOST_ENTRIES;
+use def_layout::MOST_PAGES;
+use def_layout::PAGE_SIZE;
+use def_layout::ROOM;
+ghost use mathlib.Core.Path.{_≡_};
+ghost use Prim.Native.Nat.{_+_, _*_, _%_, _≤_, _<_};
+ghost use lib.ListN.{length};
+ghost use Rattle.def_layout.specs.Sizes.{page-size, most-pages};
+ghost use Rattle.def_layout.specs.Pages.{at, zero-page, layout};
+ghost use Rattle.def_layout.specs.PageBytes.{page-fields, page-front, page-bytes, read-block};
+ghost use Rattle.law_bytes.specs.Words.{part};
+ghost use Rattle.law_bytes.specs.Patch.{patch};
+ghost use Rattle.law_bytes.specs.EntryBytes.{used};
+ghost use Rattle.codec_page.specs.Typed.{typed, shown-page, written, map-word, map-mark};
+ghost use Rattle.law_bytes.specs.PageBytes.{front-word};
+ghost use Rattle.law_bytes.specs.PageAreas.{pages-of};
+ghost use Rattle.codec_page.specs.Judged.{unused-zero};
+ghost use Rattle.codec_page.specs.Layouts.{bare-with, free-layout, leaf-layout, index-layout, map-layout, unmarked-from};
+ghost use Rattle.def_model.specs.Areas.{block-ok};
+
+// What a page holds. Of the map the 14 entries hold the 28 words of its marks, two to an entry.
+pub struct Page {
+    pub kind: u32,
+    pub level: u32,
+    pub count: u32,
+    pub right: u32,
+    pub high: u32,
+    pub lsn: u32,
+    pub own: u32,
+    pub entries: [Entry; ROOM],
+}
+
+// How many entries are in use: the map has none.
+pub fn size_of(x: Page) -> usize
+    ensures { λ r. ⌜ (typed x .entries ≡ used r (x .entries)) × (r ≤ x .count) ⌝ }
+{
+    if x.kind < 3 {
+        return x.count as usize;
+    }
+    0
+}
+
+pub fn read_page(b: &[u8]) -> Page
+    requires { ⌜ length (now b) ≡ page-size ⌝ }
+    ensures { λ r. ⌜ (typed r ≡ page-fields (now (b .entry))) × (r ≡ shown-page (now (b .entry))) ⌝ }
+{
+    let w = get32(b, 0);
+    let es = read_entries(b, 16);
+    Page {
+        kind: w / 1073741824,
+        level: w / 67108864 % 16,
+        count: w / 4194304 % 16,
+        right: w / 4096 % 1024,
+        high: get32(b, 4),
+        lsn: get32(b, 8),
+        own: get32(b, 12) / 4194304,
+        entries: es,
+    }
+}
+
+fn pack_front(p: Page) -> u32
+    ensures { λ r. ⌜ r ≡ front-word (typed p) ⌝ }
+{
+    if p.kind < 3 {
+        return p.kind * 1073741824
+            + p.level % 16 * 67108864
+            + p.count % 16 * 4194304
+            + p.right % 1024 * 4096;
+    }
+    3221225472 + p.level % 16 * 67108864 + p.right % 1024 * 4096
+}
+
+fn write_front(b: &mut [u8], p: Page)
+    requires { ⌜ length (now b) ≡ page-size ⌝ }
+    ensures { λ _. ⌜ now (b .exit) ≡ patch (now (b .entry)) 0 (page-front (typed p)) ⌝ }
+{
+    set32(b, 0, pack_front(p));
+    set32(b, 4, p.high);
+    set32(b, 8, p.lsn);
+    set32(b, 12, p.own % 1024 * 4194304);
+}
+
+// How many entries are written: those in use, or all of the map's words.
+fn to_write(p: Page) -> usize
+    ensures { λ r. ⌜ r ≡ written p ⌝ }
+{
+    if p.kind < 3 {
+        return p.count as usize;
+    }
+    ROOM
+}
+
+pub fn write_page(b: &mut [u8], p: Page)
+    requires { ⌜ length (now b) ≡ page-size ⌝ }
+    ensures { λ _. ⌜ now (b .exit) ≡ page-bytes (typed p) ⌝ }
+{
+    write_front(b, p);
+    let es = p.entries;
+    write_entries(b, 16, es, to_write(p));
+}
+
+// The page that stands in an area from byte `a` on.
+pub fn read_at(pages: &[u8], a: usize) -> Page
+    requires { ⌜ a + page-size ≤ length (now pages) ⌝ }
+    ensures { λ r. ⌜ (typed r ≡ page-fields (part (now (pages .entry)) a page-size)) × (r ≡ shown-page (part (now (pages .entry)) a page-size)) ⌝ }
+{
+    read_page(&pages[a..a + PAGE_SIZE])
+}
+
+// The 128-byte part of the area that starts at `a` is lent on and written.
+pub fn write_at(pages: &mut [u8], a: usize, p: Page)
+    requires { ⌜ a + page-size ≤ length (now pages) ⌝ }
+    ensures { λ _. ⌜ now (pages .exit) ≡ patch (now (pages .entry)) a (page-bytes (typed p)) ⌝ }
+{
+    write_page(&mut pages[a..a + PAGE_SIZE], p);
+}
+
+fn zero_page() -> Page
+    ensures { λ r. ⌜ typed r ≡ zero-page ⌝ }
+{
+    Page {
+        kind: 0,
+        level: 0,
+        count: 0,
+        right: 0,
+        high: 0,
+        lsn: 0,
+        own: 0,
+        entries: [Entry { key: 0, val: 0 }; ROOM],
+    }
+}
+
+// Page p of an area of n pages; past the last one the page that was never used.
+pub fn nth_page(pages: &[u8], n: usize, p: usize) -> Page
+    requires { ⌜ (length (now pages) ≡ page-size * n) × (n ≤ most-pages) ⌝ }
+    ensures { λ r. ⌜ typed r ≡ at (pages-of n (now (pages .entry))) p ⌝ }
+{
+    if p < n {
+        return read_at(pages, PAGE_SIZE * p);
+    }
+    zero_page()
+}
+
+// Word j of the map's 28.
+pub fn map_word(es: [Entry; ROOM], j: usize) -> u32
+    requires { ⌜ j < 28 ⌝ }
+    ensures { λ r. ⌜ r ≡ map-word es j ⌝ }
+{
+    let i = j / 2;
+    if j % 2 == 0 {
+        return es[i].key;
+    }
+    es[i].val
+}
+
+// "bit p says page p is used", the most significant bit first.
+pub fn marked(es: [Entry; ROOM], p: usize) -> bool
+    requires { ⌜ p < most-pages ⌝ }
+    ensures { λ r. ⌜ r ≡ map-mark es p ⌝ }
+{
+    let k = 31 - p % 32;
+    (map_word(es, p / 32) >> k) % 2 == 1
+}
+
+// Whether no page from the n-th on is marked.
+pub fn unmarked_from(es: [Entry; ROOM], n: usize) -> bool
+    ensures { λ r. ⌜ r ≡ unmarked-from n es ⌝ }
+{
+    let mut i = n;
+    while i < MOST_PAGES {
+        if marked(es, i) {
+            return false;
+        }
+        i += 1;
+    }
+    true
+}
+
+fn is_bare(x: Page, count: u32) -> bool
+    ensures { λ r. ⌜ r ≡ bare-with x count ⌝ }
+{
+    if x.level != 0 {
+        return false;
+    }
+    if x.right != 0 {
+        return false;
+    }
+    if x.high != 0 {
+        return false;
+    }
+    count == 0
+}
+
+fn free_ok(x: Page, p: usize) -> bool
+    ensures { λ r. ⌜ r ≡ free-layout p x ⌝ }
+{
+    if p == 0 {
+        return false;
+    }
+    if !is_bare(x, x.count) {
+        return false;
+    }
+    if x.own as usize == p {
+        return true;
+    }
+    if x.own != 0 {
+        return false;
+    }
+    x.lsn == 0
+}
+
+fn leaf_ok(x: Page, p: usize) -> bool
+    ensures { λ r. ⌜ r ≡ leaf-layout p x ⌝ }
+{
+    if p == 0 {
+        return false;
+    }
+    if x.own as usize != p {
+        return false;
+    }
+    if x.level != 0 {
+        return false;
+    }
+    x.count <= MOST_ENTRIES
+}
+
+fn index_ok(x: Page, p: usize) -> bool
+    ensures { λ r. ⌜ r ≡ index-layout p x ⌝ }
+{
+    if p == 0 {
+        return false;
+    }
+    if x.own as usize != p {
+        return false;
+    }
+    if x.level == 0 {
+        return false;
+    }
+    if x.count > MOST_ENTRIES {
+        return false;
+    }
+    let es = x.entries;
+    children_fit(es, x.count as usize)
+}
+
+fn map_ok(x: Page, n: usize, p: usize) -> bool
+    ensures { λ r. ⌜ r ≡ map-layout n p x ⌝ }
+{
+    if p != 0 {
+        return false;
+    }
+    if x.own as usize != p {
+        return false;
+    }
+    if !is_bare(x, 0) {
+        return false;
+    }
+    let es = x.entries;
+    unmarked_from(es, n)
+}
+
+// Page p of n keeps the layout of its kind.
+pub fn layout_ok(x: Page, n: usize, p: usize) -> bool
+    ensures { λ r. ⌜ r ≡ layout n p (typed x) ⌝ }
+{
+    let kind = x.kind;
+    match kind {
+        0 => free_ok(x, p),
+        1 => leaf_ok(x, p),
+        2 => index_ok(x, p),
+        _ => map_ok(x, n, p),
+    }
+}
+
+// What is not in use is zero.
+fn unused_zero(x: Page) -> bool
+    ensures { λ r. ⌜ r ≡ unused-zero x ⌝ }
+{
+    if x.kind < 3 {
+        let es = x.entries;
+        return blank_from(es, x.count as usize);
+    }
+    x.count == 0
+}
+
+// Refusal 3 finds nothing in the 128 bytes of page p of n.
+pub fn page_ok(b: &[u8], n: usize, p: usize) -> bool
+    ensures { λ r. ⌜ r ≡ block-ok n p (read-block (now (b .entry))) ⌝ }
+{
+    if b.len() != PAGE_SIZE {
+        return false;
+    }
+    if get32(b, 0) % 4096 != 0 {
+        return false;
+    }
+    if get32(b, 12) % 4194304 != 0 {
+        return false;
+    }
+    let x = read_page(b);
+    if !unused_zero(x) {
+        return false;
+    }
+    layout_ok(x, n, p)
+}

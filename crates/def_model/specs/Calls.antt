@@ -1,0 +1,234 @@
+-- The calls: what each answers and leaves, for all typed areas and desks. (Restart has a file of its own.)
+use Prim.Native.Nat.{ℕ, suc, _+_, _-_}
+use mathlib.Core.Option.{Option, none, some}
+use mathlib.Core.Bool.{Bool, true, false, not}
+use mathlib.Core.List.{List, [], _∷_, _++_, map}
+use lib.ListN.{length, replicate}
+use lib.Dec.{leb, eqb}
+use Rattle.def_layout.specs.declared.Entry.{Entry}
+use Rattle.def_layout.specs.declared.Desk.{Desk}
+use Rattle.def_layout.specs.Desks.{empty-desk, most-open}
+use Rattle.def_layout.specs.Entries.{top}
+use Rattle.def_layout.specs.Pages.{Page, at, zero-page, node-at, map-page, first-marks}
+use Rattle.def_layout.specs.PageBytes.{page}
+use Rattle.def_layout.specs.Records.{begin, insert, delete, commit, batch-row}
+use Rattle.def_layout.specs.RecordBytes.{empty}
+use Rattle.def_model.specs.declared.Refusal.{Refusal}
+use Rattle.def_model.specs.declared.Refusal.the-variants.{PageNumber, Unsound, NoBatch, EightOpen, Held, Present, Absent, SlotsShort, PagesShort, AbortStopped}
+use Rattle.def_model.specs.declared.Answer.{Answer}
+use Rattle.def_model.specs.declared.Answer.the-variants.{Done, Number, Pair}
+use Rattle.def_model.specs.Fit.{found}
+use Rattle.def_model.specs.Log.{last-number, slots-used, log-area}
+use Rattle.def_model.specs.Lookup.{fetched, next-above}
+use Rattle.def_model.specs.Update.{Run, emit, put-record, remove-record}
+use Rattle.def_model.specs.Batches.{Batch, find-batch, unmarked, desk-of}
+use Rattle.def_model.specs.Pending.{held, held-between}
+use Rattle.def_model.specs.Undo.{abort-run}
+use Rattle.def_model.specs.Areas.{Side, Areas, Store, store-page, slot-stores, log-stores}
+use Rattle.def_model.specs.Answers.{Outcome, Check, check, first-broken, refuse}
+use Rattle.def_model.specs.Sound.{sound, work-pages, work-log, work-slots, work-open, update-has-slots, update-has-pages, begin-has-slots}
+
+-- ---- from the areas to a run of updates, and back
+
+unfoldable pub run-of : Areas → Run
+run-of a =
+    record { pages = work-pages a; log = work-log a; due = suc (last-number (work-log a)); room = work-slots a - slots-used (work-log a); stop = 0 }
+
+-- The working areas that a run leaves, its log in so many slots.
+unfoldable pub run-side : ℕ → Run → Side
+run-side slots s = record { pages = map page (s .pages); log = log-area slots (s .log) }
+
+-- A call that passed, storing nothing; and one that stores all that is unstored, and then more.
+unfoldable pub kept-run : Answer → Areas → Run → Desk → Outcome
+kept-run answer a s d = record { answer = answer; work = run-side (work-slots a) s; desk = desk-of (s .log) (d .stored); stores = [] }
+
+unfoldable pub stored-run : Answer → Areas → Run → Desk → List Store → Outcome
+stored-run answer a s d more =
+    record { answer = answer; work = run-side (work-slots a) s; desk = desk-of (s .log) (last-number (s .log)); stores = log-stores (d .stored) (s .log) ++ more }
+
+-- A call that changes nothing.
+abbrev pub unchanged : Answer → Areas → Desk → Outcome
+unchanged answer a d = record { answer = answer; work = a .work; desk = d; stores = [] }
+
+-- ---- checks
+
+abbrev pub is-unsound : Areas → Desk → Check
+is-unsound a d = check (not (sound a d)) Unsound
+
+unfoldable pub is-none : {A : Type 0} → Option A → Bool
+is-none none = true
+is-none (some x) = false
+
+abbrev pub no-batch : ℕ → Areas → Check
+no-batch b a = check (is-none (find-batch b (work-open a))) NoBatch
+
+-- An open batch that has its abort mark takes no record but its undos: no insert, delete, commit or abort.
+abbrev pub no-live-batch : ℕ → Areas → Check
+no-live-batch b a = check (not (unmarked (find-batch b (work-open a)))) NoBatch
+
+-- 01: "A fetch, insert or delete answers 14 if another batch holds its key". (Two names for one rule: what stops a question and what stops a
+-- change may come to differ, as soon as asking holds a key too.)
+abbrev pub held-question : ℕ → ℕ → Areas → Check
+held-question b k a = check (held b k (work-open a)) Held
+
+abbrev pub held-change : ℕ → ℕ → Areas → Check
+held-change b k a = check (held b k (work-open a)) Held
+
+abbrev pub present : ℕ → Areas → Bool
+present k a = found (fetched k (work-pages a))
+
+abbrev pub no-slots : Areas → Check
+no-slots a = check (not (update-has-slots (work-slots a) (work-log a) (work-open a))) SlotsShort
+
+abbrev pub no-pages : Areas → Check
+no-pages a = check (not (update-has-pages (work-pages a) (work-open a))) PagesShort
+
+-- ---- format
+
+-- 01: "a map and an empty root leaf".
+unfoldable pub formatted-pages : ℕ → List Page
+formatted-pages n = map-page first-marks ∷ node-at 1 0 0 top [] ∷ replicate (n - 2) zero-page
+
+unfoldable pub page-stores : ℕ → List Page → List Store
+page-stores p [] = []
+page-stores p (x ∷ xs) = store-page p x ∷ page-stores (suc p) xs
+
+-- The stores of a formatting: "storing pages, then slots, in order".
+unfoldable pub format-stores : List Page → ℕ → List Store
+format-stores pages slots = page-stores 0 pages ++ slot-stores 1 (replicate slots empty)
+
+unfoldable pub format-areas : Areas → Desk → Outcome
+format-areas a d =
+    let pages = formatted-pages (length (a .work .pages)) in
+    let slots = length (a .work .log) in
+    record {
+      answer = Done;
+      work = record { pages = map page pages; log = replicate slots empty };
+      desk = empty-desk;
+      stores = format-stores pages slots;
+    }
+
+-- ---- begin
+
+unfoldable pub begin-checks : Areas → Desk → List Check
+begin-checks a d =
+    is-unsound a d ∷ check (leb most-open (length (work-open a))) EightOpen
+    ∷ check (not (begin-has-slots (work-slots a) (work-log a) (work-open a))) SlotsShort ∷ []
+
+unfoldable pub begin-by : Option Refusal → Areas → Desk → Outcome
+begin-by (some r) a d = refuse r a d
+begin-by none a d = let n = suc (last-number (work-log a)) in kept-run (Number n) a (emit (batch-row begin n 0) (run-of a)) d
+
+-- 01: "Begin answers the new batch number."
+unfoldable pub begin-batch : Areas → Desk → Outcome
+begin-batch a d = begin-by (first-broken (begin-checks a d)) a d
+
+-- ---- fetch and next
+
+unfoldable pub fetch-checks : ℕ → ℕ → Areas → Desk → List Check
+fetch-checks b k a d = is-unsound a d ∷ no-batch b a ∷ held-question b k a ∷ check (not (present k a)) Absent ∷ []
+
+unfoldable pub value-or : Option ℕ → ℕ
+value-or none = 0
+value-or (some v) = v
+
+unfoldable pub fetch-by : Option Refusal → ℕ → Areas → Desk → Outcome
+fetch-by (some r) k a d = refuse r a d
+fetch-by none k a d = unchanged (Number (value-or (fetched k (work-pages a)))) a d
+
+unfoldable pub fetch-slide : ℕ → ℕ → Areas → Desk → Outcome
+fetch-slide b k a d = fetch-by (first-broken (fetch-checks b k a d)) k a d
+
+-- 01: "a next, if another holds any key above the asked one up to the found one, or to top if none".
+unfoldable pub next-limit : Option Entry → ℕ
+next-limit none = top
+next-limit (some e) = e .key
+
+unfoldable pub next-checks : ℕ → ℕ → Areas → Desk → List Check
+next-checks b k a d =
+    is-unsound a d ∷ no-batch b a ∷ check (held-between b k (next-limit (next-above k (work-pages a))) (work-open a)) Held
+    ∷ check (is-none (next-above k (work-pages a))) Absent ∷ []
+
+unfoldable pub next-answer : Option Entry → Answer
+next-answer none = Done
+next-answer (some e) = Pair (e .key) (e .val)
+
+unfoldable pub next-slide-by : Option Refusal → ℕ → Areas → Desk → Outcome
+next-slide-by (some r) k a d = refuse r a d
+next-slide-by none k a d = unchanged (next-answer (next-above k (work-pages a))) a d
+
+unfoldable pub next-slide : ℕ → ℕ → Areas → Desk → Outcome
+next-slide b k a d = next-slide-by (first-broken (next-checks b k a d)) k a d
+
+-- ---- insert and delete
+
+-- The batch's last record.
+unfoldable pub last-of : Option Batch → ℕ
+last-of none = 0
+last-of (some b) = b .last
+
+abbrev pub last-record : ℕ → Areas → ℕ
+last-record b a = last-of (find-batch b (work-open a))
+
+unfoldable pub insert-checks : ℕ → ℕ → Areas → Desk → List Check
+insert-checks b k a d =
+    is-unsound a d ∷ no-live-batch b a ∷ held-change b k a ∷ check (present k a) Present ∷ no-slots a ∷ no-pages a ∷ []
+
+unfoldable pub insert-by : Option Refusal → ℕ → ℕ → ℕ → Areas → Desk → Outcome
+insert-by (some r) b k v a d = refuse r a d
+insert-by none b k v a d = kept-run Done a (put-record insert b (last-record b a) k v (run-of a)) d
+
+unfoldable pub insert-slide : ℕ → ℕ → ℕ → Areas → Desk → Outcome
+insert-slide b k v a d = insert-by (first-broken (insert-checks b k a d)) b k v a d
+
+unfoldable pub delete-checks : ℕ → ℕ → Areas → Desk → List Check
+delete-checks b k a d =
+    is-unsound a d ∷ no-live-batch b a ∷ held-change b k a ∷ check (not (present k a)) Absent ∷ no-slots a ∷ no-pages a ∷ []
+
+unfoldable pub delete-by : Option Refusal → ℕ → ℕ → Areas → Desk → Outcome
+delete-by (some r) b k a d = refuse r a d
+delete-by none b k a d = kept-run Done a (remove-record delete b (last-record b a) k (value-or (fetched k (work-pages a))) (run-of a)) d
+
+unfoldable pub delete-slide : ℕ → ℕ → Areas → Desk → Outcome
+delete-slide b k a d = delete-by (first-broken (delete-checks b k a d)) b k a d
+
+-- ---- commit, abort, write-out
+
+unfoldable pub commit-checks : ℕ → Areas → Desk → List Check
+commit-checks b a d = is-unsound a d ∷ no-live-batch b a ∷ []
+
+unfoldable pub commit-by : Option Refusal → ℕ → Areas → Desk → Outcome
+commit-by (some r) b a d = refuse r a d
+commit-by none b a d = stored-run Done a (emit (batch-row commit b (last-record b a)) (run-of a)) d []
+
+-- 01: "Commit logs and then stores every unstored record, in order."
+unfoldable pub commit-batch : ℕ → Areas → Desk → Outcome
+commit-batch b a d = commit-by (first-broken (commit-checks b a d)) b a d
+
+unfoldable pub aborted : Option Batch → Run → Run
+aborted none s = s
+aborted (some b) s = abort-run b s
+
+abbrev pub abort-of : ℕ → Areas → Run
+abort-of b a = aborted (find-batch b (work-open a)) (run-of a)
+
+unfoldable pub abort-checks : ℕ → Areas → Desk → List Check
+abort-checks b a d = is-unsound a d ∷ no-live-batch b a ∷ check (not (eqb (abort-of b a .stop) 0)) AbortStopped ∷ []
+
+unfoldable pub abort-by : Option Refusal → ℕ → Areas → Desk → Outcome
+abort-by (some r) b a d = refuse r a d
+abort-by none b a d = kept-run Done a (abort-of b a) d
+
+unfoldable pub abort-batch : ℕ → Areas → Desk → Outcome
+abort-batch b a d = abort-by (first-broken (abort-checks b a d)) b a d
+
+unfoldable pub write-out-checks : ℕ → Areas → Desk → List Check
+write-out-checks p a d = check (leb (length (a .work .pages)) p) PageNumber ∷ is-unsound a d ∷ []
+
+unfoldable pub write-out-by : Option Refusal → ℕ → Areas → Desk → Outcome
+write-out-by (some r) p a d = refuse r a d
+write-out-by none p a d = stored-run Done a (run-of a) d (store-page p (at (work-pages a) p) ∷ [])
+
+-- 01: "Write-out does the same, then stores one page." (Write-out flushes one page.)
+unfoldable pub write-out-page : ℕ → Areas → Desk → Outcome
+write-out-page p a d = write-out-by (first-broken (write-out-checks p a d)) p a d

@@ -1,0 +1,98 @@
+-- 01: the plain book of demand 3. "it has slides, each a key and a value, at first none, and a sheet for each open case."
+use Prim.Native.Nat.{ℕ}
+use mathlib.Core.Bool.{Bool}
+use mathlib.Core.List.{List, [], _∷_, _++_}
+use lib.Dec.{eqb}
+use Rattle.def_base.specs.Tests.{pick}
+use Rattle.def_layout.specs.declared.Entry.{Entry}
+use Rattle.def_layout.specs.Entries.{insert-sorted, remove-key}
+use Rattle.def_model.specs.declared.Answer.{Answer}
+use Rattle.def_model.specs.Answers.{answer-numbers}
+use Rattle.def_model.specs.OnBytes.{Call, format, begin, restart, fetch, next, insert, delete, commit, abort, write-out}
+
+-- A line on a sheet: a slide filed, or a key struck out.
+pub data BookLine : Type 0 where
+  file : ℕ → ℕ → BookLine
+  strike : ℕ → BookLine
+
+-- A case's sheet, its lines in order. (A case is a batch.)
+pub record Sheet : Type 0 where
+  pub batch : ℕ
+  pub lines : List BookLine
+
+-- The slides stand by rising key.
+pub record Book : Type 0 where
+  pub slides : List Entry
+  pub sheets : List Sheet
+
+abbrev pub new-book : Book
+new-book = record { slides = []; sheets = [] }
+
+-- ---- sheets
+
+unfoldable pub lines-of : ℕ → List Sheet → List BookLine
+lines-of n [] = []
+lines-of n (s ∷ ss) = pick (eqb n (s .batch)) (s .lines) (lines-of n ss)
+
+unfoldable pub add-line : ℕ → BookLine → List Sheet → List Sheet
+add-line n l [] = []
+add-line n l (s ∷ ss) = pick (eqb n (s .batch)) (record { batch = s .batch; lines = s .lines ++ l ∷ [] } ∷ ss) (s ∷ add-line n l ss)
+
+unfoldable pub drop-sheet : ℕ → List Sheet → List Sheet
+drop-sheet n [] = []
+drop-sheet n (s ∷ ss) = pick (eqb n (s .batch)) ss (s ∷ drop-sheet n ss)
+
+-- "carries out its sheet on the slides, in order"
+unfoldable pub carry-line : BookLine → List Entry → List Entry
+carry-line (file k v) es = insert-sorted k v es
+carry-line (strike k) es = remove-key k es
+
+unfoldable pub carry-out : List BookLine → List Entry → List Entry
+carry-out [] es = es
+carry-out (l ∷ ls) es = carry-out ls (carry-line l es)
+
+-- ---- what is done to the book
+
+-- "Begin opens one under its answer"
+unfoldable pub open-sheet : ℕ → Book → Book
+open-sheet n b = record { slides = b .slides; sheets = b .sheets ++ record { batch = n; lines = [] } ∷ [] }
+
+-- "an insert or delete goes on its case's"
+unfoldable pub write-line : ℕ → BookLine → Book → Book
+write-line n l b = record { slides = b .slides; sheets = add-line n l (b .sheets) }
+
+-- "A commit .. carries out its sheet on the slides, in order; it and abort drop the sheet, a finished restart all."
+unfoldable pub commit-sheet : ℕ → Book → Book
+commit-sheet n b = record { slides = carry-out (lines-of n (b .sheets)) (b .slides); sheets = drop-sheet n (b .sheets) }
+
+unfoldable pub abort-sheet : ℕ → Book → Book
+abort-sheet n b = record { slides = b .slides; sheets = drop-sheet n (b .sheets) }
+
+unfoldable pub abort-sheets : Book → Book
+abort-sheets b = record { slides = b .slides; sheets = [] }
+
+-- A call that was not refused, and its answer. "All else changes nothing".
+unfoldable pub book-call : Call → Answer → Book → Book
+book-call format a b = b
+book-call begin a b = open-sheet (answer-numbers a .first) b
+book-call restart a b = abort-sheets b
+book-call (fetch n k) a b = b
+book-call (next n k) a b = b
+book-call (insert n k v) a b = write-line n (file k v) b
+book-call (delete n k) a b = write-line n (strike k) b
+book-call (commit n) a b = commit-sheet n b
+book-call (abort n) a b = abort-sheet n b
+book-call (write-out p) a b = b
+
+-- A call that was cut: "of a cut commit, whether its commit record was stored".
+unfoldable pub book-cut : Call → (stored : Bool) → Book → Book
+book-cut format stored b = b
+book-cut begin stored b = b
+book-cut restart stored b = b
+book-cut (fetch n k) stored b = b
+book-cut (next n k) stored b = b
+book-cut (insert n k v) stored b = b
+book-cut (delete n k) stored b = b
+book-cut (commit n) stored b = pick stored (commit-sheet n b) b
+book-cut (abort n) stored b = b
+book-cut (write-out p) stored b = b

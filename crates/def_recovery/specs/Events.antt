@@ -1,0 +1,157 @@
+-- What happens to a register, and what the customer grants of it.
+use Prim.Native.Nat.{ℕ, _+_}
+use mathlib.Core.Path.{_≡_}
+use mathlib.Core.Bool.{Bool, true, false, not, _&&_}
+use mathlib.Core.List.{List, [], _∷_, _++_}
+use lib.ListN.{length}
+use lib.Dec.{leb}
+use Rattle.def_layout.specs.declared.Desk.{Desk}
+use Rattle.def_layout.specs.Entries.{top}
+use Rattle.def_layout.specs.Numbers.{zeros}
+use Rattle.def_model.specs.declared.Answer.{Answer}
+use Rattle.def_model.specs.Answers.{passed}
+use Rattle.def_model.specs.OnBytes.{Call, format, begin, restart, fetch, next, insert, delete, commit, abort, write-out, Lent, Result, call, lent-after}
+use Rattle.def_recovery.specs.Book.{Book, new-book, book-call, book-cut}
+
+-- What a cut may leave in the working areas and the desk: anything.
+pub record Rubble : Type 0 where
+  pub work-pages : List ℕ
+  pub work-log : List ℕ
+  pub desk : Desk
+
+-- A call that ends; a call that is cut after so many of its stores; zeros added to the four areas.
+pub data Event : Type 0 where
+  ended : Call → Event
+  cut : Call → ℕ → Rubble → Event
+  grown : (work-pages stable-pages work-log stable-log : ℕ) → Event
+
+-- The lent areas, the desk, the plain book beside them, and whether there was a cut that no restart has followed yet.
+pub record World : Type 0 where
+  pub lent : Lent
+  pub desk : Desk
+  pub book : Book
+  pub since-cut : Bool
+
+-- The call's result where it stands.
+abbrev pub result : Call → World → Result
+result c w = call c (w .lent) (w .desk)
+
+abbrev pub passes : Call → World → Bool
+passes c w = passed (result c w .answer)
+
+-- ---- one event
+
+unfoldable pub book-after : (passed : Bool) → Call → Answer → Book → Book
+book-after true c a b = book-call c a b
+book-after false c a b = b
+
+unfoldable pub end-call : Call → World → World
+end-call c w =
+    let r = result c w in
+    record {
+      lent = lent-after (length (r .stores)) r (w .lent);
+      desk = r .desk;
+      book = book-after (passed (r .answer)) c (r .answer) (w .book);
+      since-cut = w .since-cut && not (passed (r .answer));
+    }
+
+-- Its commit record is a commit's last store.
+abbrev pub all-stored : ℕ → Result → Bool
+all-stored budget r = passed (r .answer) && leb (length (r .stores)) budget
+
+unfoldable pub cut-call : Call → ℕ → Rubble → World → World
+cut-call c budget left w =
+    let r = result c w in
+    let s = lent-after budget r (w .lent) in
+    record {
+      lent = record { work-pages = left .work-pages; stable-pages = s .stable-pages; work-log = left .work-log; stable-log = s .stable-log };
+      desk = left .desk;
+      book = book-cut c (all-stored budget r) (w .book);
+      since-cut = true;
+    }
+
+unfoldable pub grow : (work-pages stable-pages work-log stable-log : ℕ) → World → World
+grow a b c d w =
+    record {
+      lent =
+          record {
+            work-pages = w .lent .work-pages ++ zeros a;
+            stable-pages = w .lent .stable-pages ++ zeros b;
+            work-log = w .lent .work-log ++ zeros c;
+            stable-log = w .lent .stable-log ++ zeros d;
+          };
+      desk = w .desk;
+      book = w .book;
+      since-cut = w .since-cut;
+    }
+
+unfoldable pub happen : Event → World → World
+happen (ended c) w = end-call c w
+happen (cut c budget left) w = cut-call c budget left w
+happen (grown a b c d) w = grow a b c d w
+
+unfoldable pub happen-all : List Event → World → World
+happen-all [] w = w
+happen-all (e ∷ es) w = happen-all es (happen e w)
+
+-- ---- what the customer grants
+
+unfoldable pub is-format : Call → Bool
+is-format format = true
+is-format begin = false
+is-format restart = false
+is-format (fetch n k) = false
+is-format (next n k) = false
+is-format (insert n k v) = false
+is-format (delete n k) = false
+is-format (commit n) = false
+is-format (abort n) = false
+is-format (write-out p) = false
+
+unfoldable pub is-restart : Call → Bool
+is-restart format = false
+is-restart begin = false
+is-restart restart = true
+is-restart (fetch n k) = false
+is-restart (next n k) = false
+is-restart (insert n k v) = false
+is-restart (delete n k) = false
+is-restart (commit n) = false
+is-restart (abort n) = false
+is-restart (write-out p) = false
+
+-- 01: "Keys and values are 32-bit", and so is every number that a call is given.
+abbrev pub fits-32 : ℕ → Bool
+fits-32 n = leb n top
+
+unfoldable pub of-32-bits : Call → Bool
+of-32-bits format = true
+of-32-bits begin = true
+of-32-bits restart = true
+of-32-bits (fetch n k) = fits-32 n && fits-32 k
+of-32-bits (next n k) = fits-32 n && fits-32 k
+of-32-bits (insert n k v) = fits-32 n && (fits-32 k && fits-32 v)
+of-32-bits (delete n k) = fits-32 n && fits-32 k
+of-32-bits (commit n) = fits-32 n
+of-32-bits (abort n) = fits-32 n
+of-32-bits (write-out p) = fits-32 p
+
+-- "since the last finished formatting": a formatting among the calls is a refused one. "the first call after a cut to pass its checks is a
+-- restart, itself cut or not".
+pub record Granted (c : Call) (w : World) : Type 0 where
+  pub numbers : of-32-bits c ≡ true
+  pub no-format : is-format c ≡ true → passes c w ≡ false
+  pub restart-first : w .since-cut ≡ true → passes c w ≡ true → is-restart c ≡ true
+
+unfoldable pub Allowed : Event → World → Type 0
+Allowed (ended c) w = Granted c w
+Allowed (cut c budget left) w = Granted c w
+Allowed (grown a b c d) w = Unit {0}
+
+unfoldable pub AllAllowed : List Event → World → Type 0
+AllAllowed [] w = Unit {0}
+AllAllowed (e ∷ es) w = Allowed e w × AllAllowed es (happen e w)
+
+-- The register right after a finished formatting of these areas.
+unfoldable pub formatted : Lent → Desk → World
+formatted l d = let r = call format l d in record { lent = lent-after (length (r .stores)) r l; desk = r .desk; book = new-book; since-cut = false }

@@ -1,0 +1,109 @@
+-- A session: calls on a new register, cuts, what is answered, and what can be seen in the areas afterwards.
+use Prim.Native.Nat.{ℕ, _+_, _-_}
+use mathlib.Core.Bool.{Bool, true, false, _&&_}
+use mathlib.Core.List.{List, [], _∷_, _++_, map}
+use lib.ListN.{length, take, drop}
+use lib.Dec.{eqb}
+use Rattle.def_base.specs.Tests.{every}
+use Rattle.def_layout.specs.declared.Entry.{Entry}
+use Rattle.def_layout.specs.declared.Desk.{Desk}
+use Rattle.def_layout.specs.Desks.{empty-desk}
+use Rattle.def_layout.specs.Numbers.{same-bytes}
+use Rattle.def_layout.specs.Entries.{same-entries}
+use Rattle.def_layout.specs.Pages.{at, page-kind-number}
+use Rattle.def_layout.specs.PageBytes.{page-bytes}
+use Rattle.def_layout.specs.Records.{kind-number}
+use Rattle.def_model.specs.Areas.{Areas, zero-side, store-some}
+use Rattle.def_model.specs.Answers.{Outcome, Numbers, answer-numbers}
+use Rattle.def_model.specs.Sound.{work-pages, work-log}
+use Rattle.def_model.specs.TreeRules.{leaf-records}
+use Rattle.def_model.specs.OnBytes.{Call, format, outcome}
+
+-- A call that ends; or one that is cut after so many of its stores, and leaves nothing of use in the working areas and the desk.
+pub data Step : Type 0 where
+  ask : Call → Step
+  cut : ℕ → Call → Step
+
+-- The four areas, the desk, and the answers so far, each as 0 or the refusal and two values.
+pub record Machine : Type 0 where
+  pub areas : Areas
+  pub desk : Desk
+  pub answers : List (List ℕ)
+
+unfoldable pub numbers : Numbers → List ℕ
+numbers n = n .reason ∷ n .first ∷ n .second ∷ []
+
+unfoldable pub ended : Outcome → Machine → Machine
+ended o m =
+    record {
+      areas = record { work = o .work; stable = store-some (length (o .stores)) (o .stores) (m .areas .stable) };
+      desk = o .desk;
+      answers = m .answers ++ numbers (answer-numbers (o .answer)) ∷ [];
+    }
+
+unfoldable pub cut-off : ℕ → Outcome → Machine → Machine
+cut-off j o m =
+    let s = m .areas .work in
+    record {
+      areas = record { work = zero-side (length (s .pages)) (length (s .log)); stable = store-some j (o .stores) (m .areas .stable) };
+      desk = empty-desk;
+      answers = m .answers;
+    }
+
+unfoldable pub play-step : Step → Machine → Machine
+play-step (ask c) m = ended (outcome c (m .areas) (m .desk)) m
+play-step (cut j c) m = cut-off j (outcome c (m .areas) (m .desk)) m
+
+unfoldable pub play : List Step → Machine → Machine
+play [] m = m
+play (s ∷ ss) m = play ss (play-step s m)
+
+-- A new register of so many pages and slots: lent as zeros, and formatted.
+unfoldable pub new : ℕ → ℕ → Machine
+new pages slots =
+    let a : Areas = record { work = zero-side pages slots; stable = zero-side pages slots } in
+    let m = ended (outcome format a empty-desk) (record { areas = a; desk = empty-desk; answers = [] }) in
+    record { areas = m .areas; desk = m .desk; answers = [] }
+
+-- ---- what can be seen
+
+pub data See : Type 0 where
+  page-keys : ℕ → List ℕ → See
+  page-entries : ℕ → List Entry → See
+  page-right : ℕ → ℕ → See
+  page-kind-is : ℕ → ℕ → See
+  page-count : ℕ → ℕ → See
+  page-bytes-from : ℕ → ℕ → List ℕ → See
+  kinds-from : ℕ → List ℕ → See
+  slides : List Entry → See
+
+unfoldable pub seen : Machine → See → Bool
+seen m (page-keys p ks) = same-bytes (map (λ e. e .key) (at (work-pages (m .areas)) p .entries)) ks
+seen m (page-entries p es) = same-entries (at (work-pages (m .areas)) p .entries) es
+seen m (page-right p r) = eqb (at (work-pages (m .areas)) p .right) r
+seen m (page-kind-is p k) = eqb (page-kind-number (at (work-pages (m .areas)) p .kind)) k
+seen m (page-count p n) = eqb (length (at (work-pages (m .areas)) p .entries)) n
+seen m (page-bytes-from p i bs) = same-bytes (take (length bs) (drop i (page-bytes (at (work-pages (m .areas)) p)))) bs
+seen m (kinds-from n ks) = same-bytes (map (λ r. kind-number (r .kind)) (drop (n - 1) (work-log (m .areas)))) ks
+seen m (slides es) = same-entries (leaf-records (work-pages (m .areas))) es
+
+-- ---- a row of the table
+
+pub record Session : Type 0 where
+  pub pages : ℕ
+  pub slots : ℕ
+  pub steps : List Step
+  pub answers : List (List ℕ)
+  pub sees : List See
+
+unfoldable pub same-answers : List (List ℕ) → List (List ℕ) → Bool
+same-answers [] [] = true
+same-answers [] (y ∷ ys) = false
+same-answers (x ∷ xs) [] = false
+same-answers (x ∷ xs) (y ∷ ys) = same-bytes x y && same-answers xs ys
+
+-- The answers are those of the row, and all that it names is seen afterwards.
+unfoldable pub comes-true : Session → Bool
+comes-true s =
+    let m = play (s .steps) (new (s .pages) (s .slots)) in
+    same-answers (m .answers) (s .answers) && every (seen m) (s .sees)

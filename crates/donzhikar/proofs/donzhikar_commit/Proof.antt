@@ -1,0 +1,21 @@
+-- `donzhikar_commit`: refused by a length, or what the call replies.
+use borrow.Author.Needs.{needs}
+use Rattle.donzhikar.proofs.donzhikar_commit.Statement.{statement}
+use Rattle.donzhikar.proofs.donzhikar_commit.Tie as tie
+use mathlib.Core.Path.{_∙_}
+
+pub donzhikar-commit-spec : {M : Type 1} → statement M
+donzhikar-commit-spec =
+    tie.close
+    (tie.spec
+    (λ c κs. search needs)
+    (λ c. search needs)
+    (λ c. search needs)
+    (λ c. c .before .asked .ensures .refuses (c .if1 .taken) _ _)
+    (λ c κs. search needs)
+    (λ c κs. c .before .before .before .before .before .before .before .before .before .before .before .asked .ensures .sizes (c .before .before .before .before .before .before .before .before .before .before .if1 .left))
+    (λ c. search needs)
+    (λ c. search needs)
+    (λ c. search needs)
+    (λ c. search needs)
+    (λ c. c .before .before .before .before .give .ensures _ _ _ _ (c .before .before .before .before .before .before .before .before .before .before .before .commit .ensures) ∙ c .before .before .before .before .before .before .before .before .before .before .before .before .before .before .before .before .asked .ensures .asks (c .before .before .before .before .before .before .before .before .before .before .before .before .before .before .before .if1 .left) _ _))

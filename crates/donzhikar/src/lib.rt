@@ -1,0 +1,281 @@
+// The register's calls for C: numbers and byte slices, each slice a pointer and a length.
+//
+// Every function takes the four areas in one order (working pages, stable pages, working log, stable log), then the desk's 136 bytes,
+// then 8 bytes for the answer's two values, then the call's numbers. It returns 0 or the refusal's number.
+use call_reply::Reply;
+use codec_bytes::set32;
+use codec_desk::get_desk;
+use codec_desk::idle_desk;
+use codec_desk::put_desk;
+use def_layout::DESK_SIZE;
+use def_layout::Desk;
+use face_answers::first_of;
+use face_answers::reason_of;
+use face_answers::second_of;
+ghost use mathlib.Core.Path.{_≡_};
+ghost use lib.ListN.{length};
+ghost use Rattle.def_layout.specs.Sizes.{desk-size};
+ghost use Rattle.def_model.specs.OnBytes as calls;
+ghost use Rattle.area_lengths.specs.Lent.{lent};
+ghost use Rattle.donzhikar.specs.Returned.{returned, c-call, Asks, Gives};
+
+// What stands before every call: whether it is refused by a length, and if not the desk.
+struct Request {
+    refused: bool,
+    desk: Desk,
+}
+
+// The desk has 136 bytes and the values have 8, or the call is refused.
+fn asked(desk: &[u8], values: &[u8]) -> Request
+    ensures { λ q. ⌜ Asks (now (desk .entry)) (now (values .entry)) q ⌝ }
+{
+    let none = Request {
+        refused: true,
+        desk: idle_desk(0),
+    };
+    if desk.len() != DESK_SIZE {
+        return none;
+    }
+    if values.len() != 8 {
+        return none;
+    }
+    Request {
+        refused: false,
+        desk: get_desk(desk),
+    }
+}
+
+// A reply, as C gets it.
+fn give(desk: &mut [u8], values: &mut [u8], y: Reply) -> u32
+    requires { ⌜ (length (now desk) ≡ desk-size) × (length (now values) ≡ 8) ⌝ }
+    ensures { λ r. ⌜ Gives y r (now (desk .exit)) (now (values .exit)) ⌝ }
+{
+    let a = y.answer;
+    let d = y.desk;
+    put_desk(desk, d);
+    set32(values, 0, first_of(a));
+    set32(values, 4, second_of(a));
+    reason_of(a)
+}
+
+// Format: an empty register in all four areas.
+#[no_mangle]
+pub extern "C" fn donzhikar_format(
+    wp: &mut [u8],
+    sp: &mut [u8],
+    wl: &mut [u8],
+    sl: &mut [u8],
+    desk: &mut [u8],
+    values: &mut [u8],
+) -> u32
+    ensures { λ r. ⌜ returned r (now (desk .exit)) (now (values .exit)) (lent (now (wp .exit)) (now (sp .exit)) (now (wl .exit)) (now (sl .exit))) ≡ c-call calls.format (lent (now (wp .entry)) (now (sp .entry)) (now (wl .entry)) (now (sl .entry))) (now (desk .entry)) (now (values .entry)) ⌝ }
+{
+    let q = asked(desk, values);
+    if q.refused {
+        return 1;
+    }
+    let d = q.desk;
+    let y = call_register::format(wp, sp, wl, sl, d);
+    give(desk, values, y)
+}
+
+// Begin: a new batch, whose number is the first value.
+#[no_mangle]
+pub extern "C" fn donzhikar_begin(
+    wp: &[u8],
+    sp: &[u8],
+    wl: &mut [u8],
+    sl: &[u8],
+    desk: &mut [u8],
+    values: &mut [u8],
+) -> u32
+    ensures { λ r. ⌜ returned r (now (desk .exit)) (now (values .exit)) (lent (now (wp .entry)) (now (sp .entry)) (now (wl .exit)) (now (sl .entry))) ≡ c-call calls.begin (lent (now (wp .entry)) (now (sp .entry)) (now (wl .entry)) (now (sl .entry))) (now (desk .entry)) (now (values .entry)) ⌝ }
+{
+    let q = asked(desk, values);
+    if q.refused {
+        return 1;
+    }
+    let d = q.desk;
+    let y = call_register::begin(wp, sp, wl, sl, d);
+    give(desk, values, y)
+}
+
+// Fetch: a key's value.
+#[no_mangle]
+pub extern "C" fn donzhikar_fetch(
+    wp: &[u8],
+    sp: &[u8],
+    wl: &[u8],
+    sl: &[u8],
+    desk: &mut [u8],
+    values: &mut [u8],
+    batch: u32,
+    key: u32,
+) -> u32
+    ensures { λ r. ⌜ returned r (now (desk .exit)) (now (values .exit)) (lent (now (wp .entry)) (now (sp .entry)) (now (wl .entry)) (now (sl .entry))) ≡ c-call (calls.fetch batch key) (lent (now (wp .entry)) (now (sp .entry)) (now (wl .entry)) (now (sl .entry))) (now (desk .entry)) (now (values .entry)) ⌝ }
+{
+    let q = asked(desk, values);
+    if q.refused {
+        return 1;
+    }
+    let d = q.desk;
+    let y = call_register::fetch(wp, sp, wl, sl, d, batch, key);
+    give(desk, values, y)
+}
+
+// Next: the first slide above a key, its key and its value.
+#[no_mangle]
+pub extern "C" fn donzhikar_next(
+    wp: &[u8],
+    sp: &[u8],
+    wl: &[u8],
+    sl: &[u8],
+    desk: &mut [u8],
+    values: &mut [u8],
+    batch: u32,
+    key: u32,
+) -> u32
+    ensures { λ r. ⌜ returned r (now (desk .exit)) (now (values .exit)) (lent (now (wp .entry)) (now (sp .entry)) (now (wl .entry)) (now (sl .entry))) ≡ c-call (calls.next batch key) (lent (now (wp .entry)) (now (sp .entry)) (now (wl .entry)) (now (sl .entry))) (now (desk .entry)) (now (values .entry)) ⌝ }
+{
+    let q = asked(desk, values);
+    if q.refused {
+        return 1;
+    }
+    let d = q.desk;
+    let y = call_register::next(wp, sp, wl, sl, d, batch, key);
+    give(desk, values, y)
+}
+
+// Insert: a slide is filed.
+#[no_mangle]
+pub extern "C" fn donzhikar_insert(
+    wp: &mut [u8],
+    sp: &[u8],
+    wl: &mut [u8],
+    sl: &[u8],
+    desk: &mut [u8],
+    values: &mut [u8],
+    batch: u32,
+    key: u32,
+    value: u32,
+) -> u32
+    ensures { λ r. ⌜ returned r (now (desk .exit)) (now (values .exit)) (lent (now (wp .exit)) (now (sp .entry)) (now (wl .exit)) (now (sl .entry))) ≡ c-call (calls.insert batch key value) (lent (now (wp .entry)) (now (sp .entry)) (now (wl .entry)) (now (sl .entry))) (now (desk .entry)) (now (values .entry)) ⌝ }
+{
+    let q = asked(desk, values);
+    if q.refused {
+        return 1;
+    }
+    let d = q.desk;
+    let y = call_register::insert(wp, sp, wl, sl, d, batch, key, value);
+    give(desk, values, y)
+}
+
+// Delete: a slide is taken out.
+#[no_mangle]
+pub extern "C" fn donzhikar_delete(
+    wp: &mut [u8],
+    sp: &[u8],
+    wl: &mut [u8],
+    sl: &[u8],
+    desk: &mut [u8],
+    values: &mut [u8],
+    batch: u32,
+    key: u32,
+) -> u32
+    ensures { λ r. ⌜ returned r (now (desk .exit)) (now (values .exit)) (lent (now (wp .exit)) (now (sp .entry)) (now (wl .exit)) (now (sl .entry))) ≡ c-call (calls.delete batch key) (lent (now (wp .entry)) (now (sp .entry)) (now (wl .entry)) (now (sl .entry))) (now (desk .entry)) (now (values .entry)) ⌝ }
+{
+    let q = asked(desk, values);
+    if q.refused {
+        return 1;
+    }
+    let d = q.desk;
+    let y = call_register::delete(wp, sp, wl, sl, d, batch, key);
+    give(desk, values, y)
+}
+
+// Commit: a batch's changes stay, and the log is stored.
+#[no_mangle]
+pub extern "C" fn donzhikar_commit(
+    wp: &[u8],
+    sp: &[u8],
+    wl: &mut [u8],
+    sl: &mut [u8],
+    desk: &mut [u8],
+    values: &mut [u8],
+    batch: u32,
+) -> u32
+    ensures { λ r. ⌜ returned r (now (desk .exit)) (now (values .exit)) (lent (now (wp .entry)) (now (sp .entry)) (now (wl .exit)) (now (sl .exit))) ≡ c-call (calls.commit batch) (lent (now (wp .entry)) (now (sp .entry)) (now (wl .entry)) (now (sl .entry))) (now (desk .entry)) (now (values .entry)) ⌝ }
+{
+    let q = asked(desk, values);
+    if q.refused {
+        return 1;
+    }
+    let d = q.desk;
+    let y = call_register::commit(wp, sp, wl, sl, d, batch);
+    give(desk, values, y)
+}
+
+// Abort: a batch's changes are undone.
+#[no_mangle]
+pub extern "C" fn donzhikar_abort(
+    wp: &mut [u8],
+    sp: &[u8],
+    wl: &mut [u8],
+    sl: &[u8],
+    desk: &mut [u8],
+    values: &mut [u8],
+    batch: u32,
+) -> u32
+    ensures { λ r. ⌜ returned r (now (desk .exit)) (now (values .exit)) (lent (now (wp .exit)) (now (sp .entry)) (now (wl .exit)) (now (sl .entry))) ≡ c-call (calls.abort batch) (lent (now (wp .entry)) (now (sp .entry)) (now (wl .entry)) (now (sl .entry))) (now (desk .entry)) (now (values .entry)) ⌝ }
+{
+    let q = asked(desk, values);
+    if q.refused {
+        return 1;
+    }
+    let d = q.desk;
+    let y = call_register::abort(wp, sp, wl, sl, d, batch);
+    give(desk, values, y)
+}
+
+// Write-out: the log and then one page are stored.
+#[no_mangle]
+pub extern "C" fn donzhikar_write_out(
+    wp: &[u8],
+    sp: &mut [u8],
+    wl: &[u8],
+    sl: &mut [u8],
+    desk: &mut [u8],
+    values: &mut [u8],
+    page: u32,
+) -> u32
+    ensures { λ r. ⌜ returned r (now (desk .exit)) (now (values .exit)) (lent (now (wp .entry)) (now (sp .exit)) (now (wl .entry)) (now (sl .exit))) ≡ c-call (calls.write-out page) (lent (now (wp .entry)) (now (sp .entry)) (now (wl .entry)) (now (sl .entry))) (now (desk .entry)) (now (values .entry)) ⌝ }
+{
+    let q = asked(desk, values);
+    if q.refused {
+        return 1;
+    }
+    let d = q.desk;
+    let y = call_register::write_out(wp, sp, wl, sl, d, page);
+    give(desk, values, y)
+}
+
+// Restart: the number of batches that it ended, and of page changes that it redid.
+#[no_mangle]
+pub extern "C" fn donzhikar_restart(
+    wp: &mut [u8],
+    sp: &[u8],
+    wl: &mut [u8],
+    sl: &mut [u8],
+    desk: &mut [u8],
+    values: &mut [u8],
+) -> u32
+    ensures { λ r. ⌜ returned r (now (desk .exit)) (now (values .exit)) (lent (now (wp .exit)) (now (sp .entry)) (now (wl .exit)) (now (sl .exit))) ≡ c-call calls.restart (lent (now (wp .entry)) (now (sp .entry)) (now (wl .entry)) (now (sl .entry))) (now (desk .entry)) (now (values .entry)) ⌝ }
+{
+    let q = asked(desk, values);
+    if q.refused {
+        return 1;
+    }
+    let d = q.desk;
+    let y = call_register::restart(wp, sp, wl, sl, d);
+    give(desk, values, y)
+}

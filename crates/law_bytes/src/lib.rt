@@ -1,0 +1,1 @@
+// What stands in bytes, and is read back from them: see specs/.

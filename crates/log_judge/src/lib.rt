@@ -1,0 +1,231 @@
+// The log judged in one pass: each slot's row and number, the batch chain, and what the log says of its open batches.
+use codec_bytes::get32;
+use codec_bytes::is_zero;
+use codec_desk::no_rows;
+use codec_slot::Header;
+use codec_slot::Slot;
+use codec_slot::kind_number;
+use codec_slot::read_at;
+use def_layout::Row;
+use def_layout::SLOT_SIZE;
+use log_chain::Judged;
+use log_chain::Told;
+use log_chain::going_on;
+use log_chain::longer;
+use log_chain::refused;
+use log_chain::step;
+use record_check::pages_ok;
+use record_check::row_ok;
+ghost use mathlib.Core.Path.{_≡_};
+ghost use mathlib.Core.Bool.{true, false};
+ghost use Prim.Native.Nat.{suc, _+_, _*_, _≤_, _<_};
+ghost use lib.ListN.{length, drop};
+ghost use Rattle.def_layout.specs.Sizes.{slot-size, most-slots};
+ghost use Rattle.def_base.specs.Tests.{every};
+ghost use Rattle.def_layout.specs.RecordBytes.{read-slot};
+ghost use Rattle.def_model.specs.Log.{is-empty};
+ghost use Rattle.law_bytes.specs.Words.{part};
+ghost use Rattle.law_bytes.specs.LogAreas.{slots-of};
+ghost use Rattle.law_bytes.specs.DeskRows.{LowRows};
+ghost use Rattle.log_judge.specs.Updates.{Update, TellsUpdate};
+ghost use Rattle.log_judge.specs.Turns.{in-order, Turns};
+ghost use Rattle.log_judge.specs.Judging.{Judgement};
+ghost use Rattle.log_judge.specs.Accepted.{total};
+
+// What a log says: whether it keeps 01's rules, the rows of its open batches, which of these have their abort mark, and how many records it has.
+// Where it is not ok, the rest says nothing.
+pub struct Said {
+    pub ok: bool,
+    pub rows: [Row; 8],
+    pub marked: [bool; 8],
+    pub logged: u32,
+}
+
+fn broken() -> Said
+    ensures { λ r. ⌜ r .ok ≡ false ⌝ }
+{
+    let rows = no_rows();
+    let marked = [false; 8];
+    Said {
+        ok: false,
+        rows,
+        marked,
+        logged: 0,
+    }
+}
+
+// Record number i + 1 of a register of n pages stands in slot i, and keeps its row and the page count.
+fn in_order(s: Slot, own: u32, i: usize, n: usize) -> bool
+    requires { ⌜ i < most-slots ⌝ }
+    ensures { λ r. ⌜ r ≡ in-order n (suc i) own (s .header) (s .entries) ⌝ }
+{
+    if own as usize != i + 1 {
+        return false;
+    }
+    if !row_ok(s) {
+        return false;
+    }
+    pages_ok(s, n)
+}
+
+// Slot i of a register of n pages: "a slot breaks its row, number or batch chain, or names an A, B or C not below the page count".
+fn judge_slot(log: &[u8], m: usize, n: usize, i: usize, rows: [Row; 8], marked: [bool; 8]) -> Judged
+    requires { ⌜ (length (now log) ≡ slot-size * m) × (m ≤ most-slots) × (i < m) × LowRows rows ⌝ }
+    ensures { λ r. ⌜ Turns n m (now (log .entry)) i rows marked r ⌝ }
+{
+    let s = read_at(log, SLOT_SIZE * i);
+    let header = s.header;
+    let Header::Full {
+        kind,
+        count: _,
+        level: _,
+        own,
+        batch,
+        previous,
+        a: _,
+        b: _,
+        c: _,
+        key,
+        second,
+        right: _,
+    } = header
+    else {
+        return refused();
+    };
+    if !in_order(s, own, i, n) {
+        return refused();
+    }
+    let t = Told {
+        kind: kind_number(kind),
+        own,
+        batch,
+        previous,
+        key,
+        second,
+    };
+    step(log, m, rows, marked, t)
+}
+
+// Whether 144 bytes hold insert or delete number `own` on a page below n: eight words, and zeros after them.
+fn is_update(b: &[u8], own: u32, n: usize) -> bool
+    requires { ⌜ length (now b) ≡ slot-size ⌝ }
+    ensures { λ r. ⌜ (r ≡ true → Update n own (now (b .entry))) ⌝ }
+{
+    let w = get32(b, 0);
+    if w % 268435456 != 0 {
+        return false;
+    }
+    if w / 268435456 < 2 {
+        return false;
+    }
+    if 3 < w / 268435456 {
+        return false;
+    }
+    if get32(b, 4) != own {
+        return false;
+    }
+    let pages = get32(b, 16);
+    if pages % 4194304 != 0 {
+        return false;
+    }
+    if n <= (pages / 4194304) as usize {
+        return false;
+    }
+    if get32(b, 28) != 0 {
+        return false;
+    }
+    is_zero(&b[32..SLOT_SIZE])
+}
+
+// What an update at slot i tells the batch chain; kind 0 where the slot holds none.
+fn update_at(log: &[u8], m: usize, n: usize, i: usize) -> Told
+    requires { ⌜ (length (now log) ≡ slot-size * m) × (m ≤ most-slots) × (i < m) ⌝ }
+    ensures { λ t. ⌜ ((t .kind ≡ 0 → ⊥) → TellsUpdate n m (now (log .entry)) i t) ⌝ }
+{
+    let b = &log[SLOT_SIZE * i..SLOT_SIZE * i + SLOT_SIZE];
+    if !is_update(b, (i + 1) as u32, n) {
+        return Told {
+            kind: 0,
+            own: 0,
+            batch: 0,
+            previous: 0,
+            key: 0,
+            second: 0,
+        };
+    }
+    Told {
+        kind: get32(b, 0) / 268435456,
+        own: get32(b, 4),
+        batch: get32(b, 8),
+        previous: get32(b, 12),
+        key: get32(b, 20),
+        second: get32(b, 24),
+    }
+}
+
+fn empty_slot(log: &[u8], m: usize, i: usize) -> bool
+    requires { ⌜ (length (now log) ≡ slot-size * m) × (m ≤ most-slots) × (i < m) ⌝ }
+    ensures { λ r. ⌜ r ≡ is-empty (read-slot (part (now (log .entry)) (slot-size * i) slot-size)) ⌝ }
+{
+    is_zero(&log[SLOT_SIZE * i..SLOT_SIZE * i + SLOT_SIZE])
+}
+
+// The records end before slot i: no full slot follows an empty one.
+fn finished(log: &[u8], m: usize, i: usize, rows: [Row; 8], marked: [bool; 8]) -> Said
+    requires { ⌜ (length (now log) ≡ slot-size * m) × (m ≤ most-slots) × (i ≤ m) ⌝ }
+    ensures { λ r. ⌜ (r .ok ≡ every is-empty (drop i (slots-of m (now (log .entry))))) × (r .rows ≡ rows) × (r .marked ≡ marked) × (r .logged ≡ i) ⌝ }
+{
+    let ok = is_zero(&log[SLOT_SIZE * i..SLOT_SIZE * m]);
+    Said {
+        ok,
+        rows,
+        marked,
+        logged: i as u32,
+    }
+}
+
+// Refusal 4: the log of m slots of a register of n pages, slot by slot; and what it says of its open batches.
+// Most slots hold updates, which change one row: they are judged here, with no copy of the rows.
+pub fn judge_log(log: &[u8], m: usize, n: usize) -> Said
+    requires { ⌜ (length (now log) ≡ slot-size * m) × (m ≤ most-slots) ⌝ }
+    ensures { λ r. ⌜ Judgement n (slots-of m (now (log .entry))) r ⌝ }
+{
+    let mut rows = no_rows();
+    let mut marked = [false; 8];
+    let mut i = 0;
+    while i < m {
+        let t = update_at(log, m, n, i);
+        if t.kind != 0 {
+            let p = going_on(rows, marked, t);
+            if p == 8 {
+                return broken();
+            }
+            rows[p] = longer(rows[p], t.own);
+            i += 1;
+            continue;
+        }
+        if empty_slot(log, m, i) {
+            return finished(log, m, i, rows, marked);
+        }
+        let j = judge_slot(log, m, n, i, rows, marked);
+        if !j.ok {
+            return broken();
+        }
+        rows = j.rows;
+        marked = j.marked;
+        i += 1;
+    }
+    finished(log, m, i, rows, marked)
+}
+
+// The lines that are pending in all batches.
+pub fn pending_total(rows: [Row; 8]) -> u32
+    requires { ⌜ LowRows rows ⌝ }
+    ensures { λ r. ⌜ r ≡ total rows ⌝ }
+{
+    let mut t: u32 = 0;
+    for i in 0..8 {
+        t += rows[i].pending;
+    }
+    t
+}

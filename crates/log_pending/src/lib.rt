@@ -1,0 +1,71 @@
+// The pending updates of a log's open batches, found through the log itself: each names a record from which the one below it is found.
+use codec_bytes::get32;
+use def_layout::SLOT_SIZE;
+ghost use mathlib.Core.Path.{_≡_};
+ghost use Prim.Native.Nat.{_*_, _≤_};
+ghost use lib.ListN.{length};
+ghost use Rattle.def_layout.specs.Sizes.{slot-size, most-slots};
+ghost use Rattle.log_pending.specs.Reading.{TellsAfter};
+ghost use Rattle.log_pending.specs.Lines.{TellsLine};
+
+// A pending update, and the number of the one below it in its batch.
+pub struct Line {
+    pub number: u32,
+    pub adds: bool,
+    pub key: u32,
+    pub value: u32,
+    pub below: u32,
+}
+
+// What was pending in a batch, newest, after its record p: an update itself, what an undo says is left, or nothing.
+fn pending_after(log: &[u8], m: usize, p: u32) -> u32
+    requires { ⌜ (length (now log) ≡ slot-size * m) × (m ≤ most-slots) ⌝ }
+    ensures { λ r. ⌜ TellsAfter m (now (log .entry)) p r ⌝ }
+{
+    if p == 0 {
+        return 0;
+    }
+    let i = p as usize - 1;
+    if i >= m {
+        return 0;
+    }
+    let kind = get32(log, SLOT_SIZE * i) / 268435456;
+    match kind {
+        2..=3 => p,
+        4..=5 => get32(log, SLOT_SIZE * i + 12),
+        _ => 0,
+    }
+}
+
+// The pending update that is record `number`. Of a number that is no slot's there is none.
+pub fn line_at(log: &[u8], m: usize, number: u32) -> Line
+    requires { ⌜ (length (now log) ≡ slot-size * m) × (m ≤ most-slots) ⌝ }
+    ensures { λ r. ⌜ TellsLine m (now (log .entry)) number r ⌝ }
+{
+    let none = Line {
+        number: 0,
+        adds: false,
+        key: 0,
+        value: 0,
+        below: 0,
+    };
+    if number == 0 {
+        return none;
+    }
+    let i = number as usize - 1;
+    if i >= m {
+        return none;
+    }
+    let kind = get32(log, SLOT_SIZE * i) / 268435456;
+    let key = get32(log, SLOT_SIZE * i + 20);
+    let value = get32(log, SLOT_SIZE * i + 24);
+    let previous = get32(log, SLOT_SIZE * i + 12);
+    let below = pending_after(log, m, previous);
+    Line {
+        number,
+        adds: kind == 2,
+        key,
+        value,
+        below,
+    }
+}

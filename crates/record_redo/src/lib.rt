@@ -1,0 +1,197 @@
+// Restart's redo of a whole log: each record at its pages, judged page by page, with the count of the page changes that it applied.
+use codec_slot::Header;
+use codec_slot::read_at;
+use def_layout::Entry;
+use def_layout::MOST_ENTRIES;
+use def_layout::ROOM;
+use def_layout::SLOT_SIZE;
+use record_apply::Record;
+use record_apply::apply;
+use record_apply::parts;
+use record_fit::fits;
+use record_pages::page_at;
+use record_pages::put_page;
+ghost use mathlib.Core.Path.{_≡_};
+ghost use mathlib.Core.Bool.{false};
+ghost use mathlib.Core.List.{List};
+ghost use Prim.Native.Nat.{_+_, _*_, _≤_};
+ghost use lib.ListN.{length};
+ghost use Rattle.def_layout.specs.Sizes.{page-size, slot-size, most-pages, most-slots, room};
+ghost use Rattle.def_layout.specs.Pages as layout;
+ghost use Rattle.def_layout.specs.Records.{Rec};
+ghost use Rattle.record_apply.specs.Pages.{rec};
+ghost use Rattle.record_pages.specs.Pages.{Pages};
+ghost use Rattle.record_pages.specs.Records.{Keeps};
+ghost use Rattle.record_redo.specs.Logs.{Logged};
+ghost use Rattle.record_redo.specs.Slots.{Tells};
+ghost use Rattle.record_redo.specs.Outcomes.{Outcome, Answers, pair, part, followed, one-record, whole};
+
+// Whether every change that was reached fits its page, and how many of them were applied.
+pub struct Redone {
+    pub fits: bool,
+    pub count: u32,
+}
+
+fn no_record() -> Record
+    ensures { λ r. ⌜ r .count ≤ room ⌝ }
+{
+    Record {
+        kind: 0,
+        count: 0,
+        level: 0,
+        batch: 0,
+        previous: 0,
+        a: 0,
+        b: 0,
+        c: 0,
+        key: 0,
+        second: 0,
+        right: 0,
+        entries: [Entry { key: 0, val: 0 }; ROOM],
+    }
+}
+
+// A slot's count has four bits.
+fn at_most_room(count: u32) -> u32
+    ensures { λ n. ⌜ (n ≤ room) × (count ≤ room → n ≡ count) ⌝ }
+{
+    if count > MOST_ENTRIES {
+        return MOST_ENTRIES;
+    }
+    count
+}
+
+// The record in slot i of a log of m slots, the first slot being 0.
+pub fn record_at(log: &[u8], m: usize, i: usize) -> Record
+    requires { ⌜ (length (now log) ≡ slot-size * m) × (m ≤ most-slots) ⌝ }
+    ensures { λ r. ⌜ (r .count ≤ room) × Tells m (now (log .entry)) i r ⌝ }
+{
+    if i >= m {
+        return no_record();
+    }
+    let s = read_at(log, SLOT_SIZE * i);
+    let header = s.header;
+    let entries = s.entries;
+    let Header::Full {
+        kind,
+        count,
+        level,
+        own: _,
+        batch,
+        previous,
+        a,
+        b,
+        c,
+        key,
+        second,
+        right,
+    } = header
+    else {
+        return no_record();
+    };
+    let count = at_most_room(count);
+    Record {
+        kind,
+        count,
+        level,
+        batch,
+        previous,
+        a,
+        b,
+        c,
+        key,
+        second,
+        right,
+        entries,
+    }
+}
+
+// Record r, number k, at page p. A page whose number is lower must fit: one that does not is left as it is.
+pub fn redo_checked(pages: &mut [u8], n: usize, r: Record, k: u32, p: u32) -> Redone
+    requires { ⌜ (length (now pages) ≡ page-size * n) × (n ≤ most-pages) × (r .count ≤ room) ⌝ }
+    ensures { λ d. ⌜ (d .count ≤ 1) × (d .fits ≡ false → now (pages .exit) ≡ now (pages .entry)) × ((xs : List layout.Page) → Pages n (now (pages .entry)) xs → Keeps k (rec r) → Answers n (now (pages .exit)) d (pair k (rec r) p xs)) ⌝ }
+{
+    let x = page_at(pages, n, p);
+    if x.lsn >= k {
+        return Redone {
+            fits: true,
+            count: 0,
+        };
+    }
+    if !fits(r, p as usize, x) {
+        return Redone {
+            fits: false,
+            count: 0,
+        };
+    }
+    let y = apply(r, k, p as usize, x);
+    put_page(pages, n, p, y);
+    Redone {
+        fits: true,
+        count: 1,
+    }
+}
+
+// The same after what was done so far, where that fits and the record has the part.
+fn redo_part(
+    pages: &mut [u8],
+    n: usize,
+    r: Record,
+    k: u32,
+    on: bool,
+    p: u32,
+    done: Redone,
+) -> Redone
+    requires { ⌜ (length (now pages) ≡ page-size * n) × (n ≤ most-pages) × (r .count ≤ room) × (done .count ≤ 3) ⌝ }
+    ensures { λ d. ⌜ (d .count ≤ done .count + 1) × ((o : Outcome) → Answers n (now (pages .entry)) done o → Keeps k (rec r) → Answers n (now (pages .exit)) d (followed o (part on k (rec r) p (o .pages)))) ⌝ }
+{
+    if !done.fits {
+        return done;
+    }
+    if !on {
+        return done;
+    }
+    let d = redo_checked(pages, n, r, k, p);
+    if !d.fits {
+        return d;
+    }
+    Redone {
+        fits: true,
+        count: done.count + d.count,
+    }
+}
+
+// Record r, number k, at the pages that it changes, up to the first that does not fit: A, then B or C, then the map.
+pub fn redo_places(pages: &mut [u8], n: usize, r: Record, k: u32) -> Redone
+    requires { ⌜ (length (now pages) ≡ page-size * n) × (n ≤ most-pages) × (r .count ≤ room) ⌝ }
+    ensures { λ d. ⌜ (d .count ≤ 4) × ((xs : List layout.Page) → Pages n (now (pages .entry)) xs → Keeps k (rec r) → Answers n (now (pages .exit)) d (one-record k (rec r) xs)) ⌝ }
+{
+    let bits = parts(r.kind);
+    let none = Redone {
+        fits: true,
+        count: 0,
+    };
+    let a = redo_part(pages, n, r, k, bits / 8 % 2 == 1, r.a, none);
+    let b = redo_part(pages, n, r, k, bits / 4 % 2 == 1, r.b, a);
+    let c = redo_part(pages, n, r, k, bits / 2 % 2 == 1, r.c, b);
+    redo_part(pages, n, r, k, bits % 2 == 1, 0, c)
+}
+
+// The first `logged` records of a log, each at its pages, up to the first that does not fit.
+pub fn redo_log(pages: &mut [u8], log: &[u8], n: usize, m: usize, logged: u32) -> Redone
+    requires { ⌜ (length (now pages) ≡ page-size * n) × (n ≤ most-pages) × (length (now log) ≡ slot-size * m) × (m ≤ most-slots) × (logged ≤ m) ⌝ }
+    ensures { λ d. ⌜ (d .count ≤ 4 * logged) × ((xs : List layout.Page) (l : List Rec) → Pages n (now (pages .entry)) xs → Logged m (now (log .entry)) l → length l ≡ logged → Answers n (now (pages .exit)) d (whole 1 l xs)) ⌝ }
+{
+    let mut count: u32 = 0;
+    let mut i: u32 = 0;
+    while i < logged {
+        let r = record_at(log, m, i as usize);
+        let d = redo_places(pages, n, r, i + 1);
+        if !d.fits {
+            return d;
+        }
+        count = count + d.count;
+        i = i + 1;
+    }
+    Redone { fits: true, count }
+}

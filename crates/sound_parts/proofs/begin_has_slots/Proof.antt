@@ -1,0 +1,13 @@
+-- `begin_has_slots`: the sum is the one of the reserves.
+use borrow.Author.Needs.{needs}
+use Rattle.sound_parts.proofs.begin_has_slots.Statement.{statement}
+use Rattle.sound_parts.proofs.begin_has_slots.Tie as tie
+use Rattle.sound_parts.specs.Reserves.{begin-slots-sum}
+
+returns : tie.Need-returns
+returns c = let a = c .args in begin-slots-sum (a .slots) (a .used) (a .pending) (a .batches)
+
+pub begin-has-slots-spec : {M : Type 1} → statement M
+begin-has-slots-spec =
+    tie.close
+    (tie.spec (λ c. search needs) (λ c. search needs) (λ c. search needs) (λ c. search needs) (λ c. search needs) (λ c. search needs) returns)

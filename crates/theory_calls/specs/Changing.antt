@@ -1,0 +1,160 @@
+-- Insert and delete, where they pass: with the room that they ask for they never stop.
+use Prim.Native.Nat.{ℕ, suc, _+_, _-_, _*_, _≤_}
+use mathlib.Core.Path.{_≡_, refl, sym, ap, _∙_, subst}
+use mathlib.Core.Bool.{true, false}
+use mathlib.Core.Option.{Option, none, some}
+use mathlib.Core.List.{List, []}
+use native.Mathlib.Omega.{arith}
+use lib.ListN.{length}
+use Rattle.def_base.specs.Tests.{clash, true-le}
+use Rattle.def_layout.specs.declared.Desk.{Desk}
+use Rattle.def_layout.specs.Entries.{top, look}
+use Rattle.def_layout.specs.Pages.{Page, map-bits}
+use Rattle.def_layout.specs.Records
+use Rattle.def_layout.specs.Records.{Rec, data-row}
+use Rattle.def_model.specs.declared.Refusal.{Refusal}
+use Rattle.def_model.specs.declared.Refusal.the-variants.{Unsound, NoBatch, Held, Present, Absent, SlotsShort, PagesShort}
+use Rattle.def_model.specs.declared.Answer.the-variants.{Done}
+use Rattle.def_model.specs.Lookup.{fetched}
+use Rattle.def_model.specs.TreeRules.{tree-ok, leaf-records, used-pages}
+use Rattle.def_model.specs.Update.{Run, put-record, remove-record}
+use Rattle.def_model.specs.Areas.{Areas}
+use Rattle.def_model.specs.Answers.{passed, check, first-broken}
+use Rattle.def_model.specs.Batches.{Line, Batch, change-batch, find-batch, open-batches, unmarked, pending-count, tell, written}
+use Rattle.def_model.specs.Pending.{held}
+use Rattle.def_model.specs.Sound.{sound, work-pages, work-log, work-slots, work-open, reserve, update-has-slots, update-has-pages}
+use Rattle.def_model.specs.Calls.{run-of, kept-run, value-or, present, last-of, insert-checks, insert-by, insert-slide, delete-checks, delete-by, delete-slide}
+use Rattle.def_model.specs.OnBytes.{insert, delete, outcome}
+use Rattle.def_recovery.specs.Book.{file, strike, book-call, write-line}
+use Rattle.theory_tree.specs.Step.Steps.{by-insert, by-delete}
+use Rattle.theory_update.specs.Laws.{put-law, remove-law}
+use Rattle.theory_update.specs.Find.Fetching.{fetched-is}
+use Rattle.theory_history.specs.Origin.{Origin}
+use Rattle.theory_history.specs.Start.{slides-after}
+use Rattle.theory_history.specs.Core.{Core, core-ready}
+use Rattle.theory_history.specs.Updating.{Updated, put-updated, remove-updated}
+use Rattle.theory_history.specs.BatchData.{insert-data, delete-data}
+use Rattle.theory_history.specs.History.{History, trail-standing}
+use Rattle.theory_calls.specs.Stories.{story, sheets-of, line-by, sheets-write}
+use Rattle.theory_calls.specs.LiveAreas.{Holds, live-log, live-slots}
+use Rattle.theory_calls.specs.Checks.{none-broken, kept-check, live-batch, absent-of, present-of}
+use Rattle.theory_calls.specs.Within.{put-within, remove-within}
+use Rattle.theory_calls.specs.Results.{standing, run-log, run-within, calm-passes}
+use Rattle.theory_calls.specs.Passing.{is-commit, Passes}
+
+-- ---- the room that an update asks for
+
+slots-room : (slots : ℕ) (log : List Rec) (bs : List Batch) → update-has-slots slots log bs ≡ true → length log + 33 ≤ slots
+unfolding update-has-slots reserve
+slots-room slots log bs e = let y = true-le (length log + 32 + (32 * suc (pending-count bs) + 2 * length bs)) slots e in omega arith
+
+pages-room : (pages : List Page) (bs : List Batch) → update-has-pages pages bs ≡ true → used-pages pages + 7 ≤ length pages
+unfolding update-has-pages
+pages-room pages bs e = let y = true-le (7 + 7 * suc (pending-count bs)) (length pages - used-pages pages) e in omega arith
+
+module _ (o : Origin) (n m : ℕ) (most : n ≤ map-bits) (stable log : List Rec) (a : Areas) (d : Desk) (h : Holds o n m log (a .work)) (x : History o n log) where
+  core : Core n (run-of a) (slides-after o log)
+  core = standing o n m most stable log a d h x .core
+
+  opens : work-open a ≡ open-batches (run-of a .log)
+  unfolding run-of
+  opens = refl
+
+  pages-are : work-pages a ≡ run-of a .pages
+  unfolding run-of
+  pages-are = refl
+
+  -- What the checks of an update say of the run that it starts from.
+  record Room : Type 0 where
+    records : 32 ≤ run-of a .room
+    free : used-pages (run-of a .pages) + 7 ≤ length (run-of a .pages)
+
+  room : update-has-slots (work-slots a) (work-log a) (work-open a) ≡ true → update-has-pages (work-pages a) (work-open a) ≡ true → Room
+  room p q =
+      let y = slots-room (work-slots a) (work-log a) (work-open a) p in
+      let l = ap length (live-log o n m log a h) in
+      let e = ap length (run-log o n m most stable log a d h x) in
+      let f = run-within o n m most stable log a d h x in
+      let g = live-slots o n m log a h in
+      record { records = omega arith; free = subst (λ z. used-pages z + 7 ≤ length z) pages-are (pages-room (work-pages a) (work-open a) q) }
+
+  fetched-live : (k : ℕ) → k ≤ top → fetched k (work-pages a) ≡ look k (leaf-records (run-of a .pages))
+  fetched-live k kt = fetched-is k (work-pages a) (subst (λ z. tree-ok z ≡ true) (sym pages-are) (core .tree)) kt ∙ ap (λ z. look k (leaf-records z)) pages-are
+
+  -- The story after an update.
+  told : (t : Run) (r : Rec) (b : ℕ) (line : Line) → (u : Updated (run-of a) (slides-after o log) t r) → tell (r .kind) (u .number) r (open-batches (run-of a .log)) ≡ change-batch b (written (u .number) line) (open-batches (run-of a .log))
+      → write-line b (line-by (line .adds) (line .key) (line .value)) (story o log) ≡ story o (t .log)
+  unfolding write-line story
+  told t r b line u e =
+      let sd = trail-standing o n most (u .trail) (standing o n m most stable log a d h x) in
+      let bs = ap open-batches (run-log o n m most stable log a d h x) in
+      λ i. record { slides = sd .slides i; sheets = (sheets-write b (u .number) line (open-batches log) ∙ ap (λ z. sheets-of (change-batch b (written (u .number) line) z)) (sym bs) ∙ ap sheets-of (sym e ∙ sym (u .opens))) i }
+
+  told-insert : (b k v q page : ℕ) (t : Run) → Updated (run-of a) (slides-after o log) t (data-row Records.insert b q page k v) → write-line b (file k v) (story o log) ≡ story o (t .log)
+  unfolding line-by tell
+  told-insert b k v q page t u = told t (data-row Records.insert b q page k v) b (record { number = u .number; adds = true; key = k; value = v }) u refl
+
+  told-delete : (b k v q page : ℕ) (t : Run) → Updated (run-of a) (slides-after o log) t (data-row Records.delete b q page k v) → write-line b (strike k) (story o log) ≡ story o (t .log)
+  unfolding line-by tell
+  told-delete b k v q page t u = told t (data-row Records.delete b q page k v) b (record { number = u .number; adds = false; key = k; value = v }) u refl
+
+  inserted : (b k v : ℕ) (y : Batch) → k ≤ top → v ≤ top → find-batch b (work-open a) ≡ some y → y .marked ≡ false → held b k (work-open a) ≡ false → fetched k (work-pages a) ≡ none → Room
+      → insert-slide b k v a d ≡ kept-run Done a (put-record Records.insert b (y .last) k v (run-of a)) d → Passes o n m stable log (insert b k v) a d
+  unfolding outcome is-commit book-call kept-run
+  inserted b k v y kt vt f u hd ab rm is =
+      let f′ : find-batch b (open-batches (run-of a .log)) ≡ some y = subst (λ z. find-batch b z ≡ some y) opens f in
+      let hd′ : held b k (open-batches (run-of a .log)) ≡ false = subst (λ z. held b k z ≡ false) opens hd in
+      let ab′ : look k (leaf-records (run-of a .pages)) ≡ none = sym (fetched-live k kt) ∙ ab in
+      let kept = put-law Records.insert b (y .last) k v (run-of a) (core-ready n most (run-of a) (slides-after o log) core) kt by-insert ab′ (rm .records) (rm .free) in
+      let t = put-record Records.insert b (y .last) k v (run-of a) in
+      let (page, up) = put-updated n most Records.insert b (y .last) k v (run-of a) (slides-after o log) core by-insert kt ab′ (λ p. insert-data n (run-of a) (slides-after o log) core b y f′ k v p u kt vt hd′ ab′) (kept .ready .goes) in
+      calm-passes o n m most stable log a d h x (insert b k v) t refl (up .trail) (put-within m Records.insert b (y .last) k v (run-of a) (run-within o n m most stable log a d h x))
+      (ap (λ o. o .work) is) (ap (λ o. o .stores) is) (told-insert b k v (y .last) page t up)
+
+  pub insert-passes : (b k v : ℕ) → k ≤ top → v ≤ top → passed (outcome (insert b k v) a d .answer) ≡ true → Passes o n m stable log (insert b k v) a d
+  unfolding outcome insert-slide insert-by insert-checks passed last-of
+  insert-passes b k v kt vt p = go (first-broken (insert-checks b k a d)) refl p
+    where
+      go : (z : Option Refusal) → first-broken (insert-checks b k a d) ≡ z → passed (insert-by z b k v a d .answer) ≡ true → Passes o n m stable log (insert b k v) a d
+      go (some r) e p = clash (sym p)
+      go none e p =
+          let (snd, e₁) = kept-check (sound a d) Unsound _ e in
+          let (un, e₂) = kept-check (unmarked (find-batch b (work-open a))) NoBatch _ e₁ in
+          let (hd, e₃) = none-broken (check (held b k (work-open a)) Held) _ e₂ in
+          let (pr, e₄) = none-broken (check (present k a) Present) _ e₃ in
+          let (sl, e₅) = kept-check (update-has-slots (work-slots a) (work-log a) (work-open a)) SlotsShort _ e₄ in
+          let (pg, e₆) = kept-check (update-has-pages (work-pages a) (work-open a)) PagesShort [] e₅ in
+          let (y, f, u) = live-batch (find-batch b (work-open a)) un in
+          inserted b k v y kt vt f u hd (absent-of (fetched k (work-pages a)) pr) (room sl pg)
+          (ap (λ o. insert-by o b k v a d) e ∙ ap (λ o. kept-run Done a (put-record Records.insert b (last-of o) k v (run-of a)) d) f)
+
+  deleted : (b k v : ℕ) (y : Batch) → k ≤ top → find-batch b (work-open a) ≡ some y → y .marked ≡ false → held b k (work-open a) ≡ false → fetched k (work-pages a) ≡ some v → Room
+      → delete-slide b k a d ≡ kept-run Done a (remove-record Records.delete b (y .last) k v (run-of a)) d → Passes o n m stable log (delete b k) a d
+  unfolding outcome is-commit book-call kept-run
+  deleted b k v y kt f u hd th rm is =
+      let f′ : find-batch b (open-batches (run-of a .log)) ≡ some y = subst (λ z. find-batch b z ≡ some y) opens f in
+      let hd′ : held b k (open-batches (run-of a .log)) ≡ false = subst (λ z. held b k z ≡ false) opens hd in
+      let th′ : look k (leaf-records (run-of a .pages)) ≡ some v = sym (fetched-live k kt) ∙ th in
+      let kept = remove-law Records.delete b (y .last) k v v (run-of a) (core-ready n most (run-of a) (slides-after o log) core) kt by-delete th′ (rm .records) (rm .free) in
+      let t = remove-record Records.delete b (y .last) k v (run-of a) in
+      let (page, up) = remove-updated n most Records.delete b (y .last) k v v (run-of a) (slides-after o log) core by-delete kt th′ (λ p. delete-data n (run-of a) (slides-after o log) core b y f′ k v p u kt hd′ th′) (kept .ready .goes) in
+      calm-passes o n m most stable log a d h x (delete b k) t refl (up .trail) (remove-within m Records.delete b (y .last) k v (run-of a) (run-within o n m most stable log a d h x))
+      (ap (λ o. o .work) is) (ap (λ o. o .stores) is) (told-delete b k v (y .last) page t up)
+
+  pub delete-passes : (b k : ℕ) → k ≤ top → passed (outcome (delete b k) a d .answer) ≡ true → Passes o n m stable log (delete b k) a d
+  unfolding outcome delete-slide delete-by delete-checks passed last-of value-or
+  delete-passes b k kt p = go (first-broken (delete-checks b k a d)) refl p
+    where
+      go : (z : Option Refusal) → first-broken (delete-checks b k a d) ≡ z → passed (delete-by z b k a d .answer) ≡ true → Passes o n m stable log (delete b k) a d
+      go (some r) e p = clash (sym p)
+      go none e p =
+          let (snd, e₁) = kept-check (sound a d) Unsound _ e in
+          let (un, e₂) = kept-check (unmarked (find-batch b (work-open a))) NoBatch _ e₁ in
+          let (hd, e₃) = none-broken (check (held b k (work-open a)) Held) _ e₂ in
+          let (pr, e₄) = kept-check (present k a) Absent _ e₃ in
+          let (sl, e₅) = kept-check (update-has-slots (work-slots a) (work-log a) (work-open a)) SlotsShort _ e₄ in
+          let (pg, e₆) = kept-check (update-has-pages (work-pages a) (work-open a)) PagesShort [] e₅ in
+          let (y, f, u) = live-batch (find-batch b (work-open a)) un in
+          let (v, th) = present-of (fetched k (work-pages a)) pr in
+          deleted b k v y kt f u hd th (room sl pg)
+          (ap (λ o. delete-by o b k a d) e ∙ (λ i. kept-run Done a (remove-record Records.delete b (last-of (f i)) k (value-or (th i)) (run-of a)) d))

@@ -1,0 +1,15 @@
+pub mod Origin
+pub mod FormattedOrigin
+pub mod Start
+pub mod Core
+pub mod Notes
+pub mod Trail
+pub mod TreeTrail
+pub mod Updating
+pub mod BatchData
+pub mod Undoing
+pub mod Marking
+pub mod Settling
+pub mod History
+pub mod Growing
+pub mod Redoing

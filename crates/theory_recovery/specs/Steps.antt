@@ -1,0 +1,245 @@
+-- EVERY EVENT KEEPS THE INVARIANT, and the stable log only grows.
+use Prim.Native.Nat.{ℕ, zero, suc, _+_, _*_}
+use mathlib.Core.Path.{_≡_, refl, sym, ap, _∙_, subst}
+use mathlib.Core.Logic.{_⊎_, inl, inr}
+use mathlib.Core.Bool.{Bool, true, false, not, _&&_}
+use mathlib.Core.List.{List, [], _++_, append-nil}
+use lib.ListN.{length, take, replicate-append-replicate}
+use lib.Dec.{leb}
+use Rattle.def_base.specs.Tests.{any, clash, Case, yes!, no!, case}
+use Rattle.def_layout.specs.declared.Desk.{Desk}
+use Rattle.def_layout.specs.Numbers.{zeros}
+use Rattle.def_layout.specs.Sizes.{page-size, slot-size}
+use Rattle.def_model.specs.Areas.{Store, zero-side}
+use Rattle.def_model.specs.Answers.{Outcome, passed}
+use Rattle.def_model.specs.OnBytes.{Call, format, begin, restart, fetch, next, insert, delete, commit, abort, write-out, outcome, Lent, Result, call, call-by, read-areas, lengths-ok, lent-after, store-all-bytes, pages-bytes, log-bytes}
+use Rattle.def_recovery.specs.Book.{Book, book-cut}
+use Rattle.def_recovery.specs.Events.{World, Rubble, Granted, is-format, result, passes, book-after, end-call, cut-call, all-stored, grow}
+use Rattle.def_recovery.specs.Demand3.{is-commit-of}
+use Rattle.theory_history.specs.Start.{pages-after}
+use Rattle.law_areas.specs.Lengths.{Lengths, lengths-said}
+use Rattle.law_areas.specs.Held.{holds-grown}
+use Rattle.law_areas.specs.Pages.{HoldsPages, zero-pages-bytes}
+use Rattle.law_areas.specs.Logs.{HoldsLog, empty-bytes}
+use Rattle.theory_recovery.specs.Invariant.{Mode, live, dead, lost, Inv}
+use Rattle.theory_recovery.specs.Lossless.{pages-lossless, log-lossless}
+use Rattle.theory_calls.specs.Refused.{refused, format-passes}
+use Rattle.theory_recovery.specs.Passed.{Next, sure-same, ended-next, cut-in, cut-next}
+use Rattle.theory_recovery.specs.Going.{does, Going, going}
+
+-- ---- growth
+
+more-zeros : (j a : ℕ) → zeros j ++ zeros a ≡ zeros (j + a)
+more-zeros j a = replicate-append-replicate j a 0
+
+pub grown-next : (a b c d : ℕ) (w : World) (i : Inv w) → Next (i .log) (grow a b c d w)
+unfolding grow
+grown-next a b c d w i =
+    record {
+      inv = record {
+        origin = i .origin;
+        n = i .n;
+        log = i .log;
+        slides = i .slides;
+        mode = go (i .mode);
+        sure = let s = i .sure in record { least = s .least; most = s .most; pages = s .pages; count = s .count; stored = holds-grown b (s .stored); logged = holds-grown d (s .logged); history = s .history; ranged = s .ranged; behind = s .behind };
+      };
+      more = [];
+      longer = sym (append-nil (i .log));
+    }
+  where
+    go : Mode (i .origin) (i .n) (w .lent) (i .log) (w .book) (w .since-cut) → Mode (i .origin) (i .n) (grow a b c d w .lent) (i .log) (w .book) (w .since-cut)
+    go (live log y e) = live log (record { pages = holds-grown a (y .pages); logged = holds-grown c (y .logged); history = y .history; ranged = y .ranged; rest = y .rest; longer = y .longer; fixed = y .fixed }) e
+    go (dead j k e f) = dead (j + a) (k + c) (ap (_++ zeros a) e ∙ more-zeros j a) (ap (_++ zeros c) f ∙ more-zeros k c)
+    go (lost e) = lost e
+
+-- ---- refused calls
+
+-- Nothing is stored; the working areas are as they were, or zeroed.
+pub record Unpassed (l : Lent) (r : Result) : Type 0 where
+  pub answer : passed (r .answer) ≡ false
+  pub stores : r .stores ≡ []
+  pub work : ((r .work-pages ≡ l .work-pages) × (r .work-log ≡ l .work-log)) ⊎ ((j : ℕ) × (k : ℕ) × (r .work-pages ≡ zeros j) × (r .work-log ≡ zeros k))
+
+wrong-lengths : (c : Call) (l : Lent) (d : Desk) → Unpassed l (call-by false c l d)
+unfolding call-by passed
+wrong-lengths c l d = record { answer = refl; stores = refl; work = inl (refl, refl) }
+
+refused-bytes : (c : Call) (l : Lent) (d : Desk) (n m : ℕ) → Lengths l n m → passed (outcome c (read-areas l) d .answer) ≡ false → Unpassed l (call-by true c l d)
+unfolding call-by read-areas
+refused-bytes c l d n m z p = let r = refused c (read-areas l) d p in record { answer = p; stores = r .stores; work = go (r .work) }
+  where
+    o : Outcome
+    o = outcome c (read-areas l) d
+
+    go : (outcome c (read-areas l) d .work ≡ read-areas l .work) ⊎ (outcome c (read-areas l) d .work ≡ zero-side (length (read-areas l .work .pages)) (length (read-areas l .work .log)))
+        → ((pages-bytes (outcome c (read-areas l) d .work .pages) ≡ l .work-pages) × (log-bytes (outcome c (read-areas l) d .work .log) ≡ l .work-log)) ⊎ ((j : ℕ) × (k : ℕ) × (pages-bytes (outcome c (read-areas l) d .work .pages) ≡ zeros j) × (log-bytes (outcome c (read-areas l) d .work .log) ≡ zeros k))
+    go (inl e) = inl (ap (λ s. pages-bytes (s .pages)) e ∙ pages-lossless n (l .work-pages) (z .work-pages), ap (λ s. log-bytes (s .log)) e ∙ log-lossless m (l .work-log) (z .work-log))
+    go (inr e) =
+        let a = length (read-areas l .work .pages) in
+        let b = length (read-areas l .work .log) in
+        inr (page-size * a, slot-size * b, ap (λ s. pages-bytes (s .pages)) e ∙ zero-pages-bytes a, ap (λ s. log-bytes (s .log)) e ∙ empty-bytes b)
+
+no-cut : (c : Call) (b : Book) → book-cut c false b ≡ b
+unfolding book-cut
+no-cut format b = refl
+no-cut begin b = refl
+no-cut restart b = refl
+no-cut (fetch n k) b = refl
+no-cut (next n k) b = refl
+no-cut (insert n k v) b = refl
+no-cut (delete n k) b = refl
+no-cut (commit n) b = refl
+no-cut (abort n) b = refl
+no-cut (write-out p) b = refl
+
+-- The world after a result, ended or cut.
+abbrev pub ended-by : Call → Result → World → World
+ended-by c r w = record { lent = lent-after (length (r .stores)) r (w .lent); desk = r .desk; book = book-after (passed (r .answer)) c (r .answer) (w .book); since-cut = w .since-cut && not (passed (r .answer)) }
+
+abbrev pub cut-by : Call → ℕ → Rubble → Result → World → World
+cut-by c j left r w =
+    record { lent = record { work-pages = left .work-pages; stable-pages = lent-after j r (w .lent) .stable-pages; work-log = left .work-log; stable-log = lent-after j r (w .lent) .stable-log }; desk = left .desk; book = book-cut c (all-stored j r) (w .book); since-cut = true }
+
+take-none : (j : ℕ) (ts : List Store) → ts ≡ [] → (l : Lent) → store-all-bytes (take j ts) l ≡ l
+unfolding store-all-bytes
+take-none j ts e l = ap (λ q. store-all-bytes (take j q) l) e ∙ none j
+  where
+    none : (j : ℕ) → store-all-bytes (take j []) l ≡ l
+    none zero = refl
+    none (suc j) = refl
+
+still : (b : Bool) → b && true ≡ b
+still true = refl
+still false = refl
+
+module _ (w : World) (i : Inv w) (c : Call) (r : Result) (u : Unpassed (w .lent) r) where
+  book-same : book-after (passed (r .answer)) c (r .answer) (w .book) ≡ w .book
+  unfolding book-after
+  book-same = ap (λ q. book-after q c (r .answer) (w .book)) (u .answer)
+
+  cut-same : w .since-cut && not (passed (r .answer)) ≡ w .since-cut
+  cut-same = ap (λ q. w .since-cut && not q) (u .answer) ∙ still (w .since-cut)
+
+  pub refused-ended : Next (i .log) (ended-by c r w)
+  unfolding lent-after
+  refused-ended =
+      record {
+        inv = record { origin = i .origin; n = i .n; log = i .log; sure = sure-same (i .origin) (i .n) (w .lent) (ended-by c r w .lent) (i .log) (ap (λ q. q .stable-pages) (sym kept)) (ap (λ q. q .stable-log) (sym kept)) (i .sure); slides = ap (λ q. q .slides) book-same ∙ i .slides; mode = go (u .work) (i .mode) };
+        more = [];
+        longer = sym (append-nil (i .log));
+      }
+    where
+      kept : store-all-bytes (take (length (r .stores)) (r .stores)) (w .lent) ≡ w .lent
+      kept = take-none (length (r .stores)) (r .stores) (u .stores) (w .lent)
+
+      after-lent : Lent
+      after-lent = lent-after (length (r .stores)) r (w .lent)
+
+      go : ((r .work-pages ≡ w .lent .work-pages) × (r .work-log ≡ w .lent .work-log)) ⊎ ((j : ℕ) × (k : ℕ) × (r .work-pages ≡ zeros j) × (r .work-log ≡ zeros k)) → Mode (i .origin) (i .n) (w .lent) (i .log) (w .book) (w .since-cut)
+          → Mode (i .origin) (i .n) (lent-after (length (r .stores)) r (w .lent)) (i .log) (book-after (passed (r .answer)) c (r .answer) (w .book)) (w .since-cut && not (passed (r .answer)))
+      go (inr (j, k, e, f)) m = dead j k e f
+      go (inl (e, f)) (dead j k g h) = dead j k (e ∙ g) (f ∙ h)
+      go (inl (e, f)) (lost g) = lost (cut-same ∙ g)
+      go (inl (e, f)) (live log y g) =
+          live log (record { pages = subst (λ b. HoldsPages b (pages-after (i .origin) (i .n) log)) (sym e) (y .pages); logged = subst (λ b. HoldsLog b log) (sym f) (y .logged); history = y .history; ranged = y .ranged; rest = y .rest; longer = y .longer; fixed = y .fixed }) (book-same ∙ g)
+
+  pub refused-cut : (j : ℕ) (left : Rubble) → Next (i .log) (cut-by c j left r w)
+  unfolding lent-after
+  refused-cut j left =
+      let kept = take-none j (r .stores) (u .stores) (w .lent) in
+      record {
+        inv = record {
+          origin = i .origin;
+          n = i .n;
+          log = i .log;
+          sure = sure-same (i .origin) (i .n) (w .lent) (cut-by c j left r w .lent) (i .log) (ap (λ q. q .stable-pages) (sym kept)) (ap (λ q. q .stable-log) (sym kept)) (i .sure);
+          slides = ap (λ q. book-cut c (q && leb (length (r .stores)) j) (w .book) .slides) (u .answer) ∙ ap (λ q. q .slides) (no-cut c (w .book)) ∙ i .slides;
+          mode = lost refl;
+        };
+        more = [];
+        longer = sym (append-nil (i .log));
+      }
+
+-- ---- any call
+
+-- A passed call's commit record is stored.
+pub record Reports (w : World) (i : Inv w) (c : Call) (w′ : World) : Type 0 where
+  pub next : Next (i .log) w′
+  pub told : (b : ℕ) → c ≡ commit b → passes c w ≡ true → any (is-commit-of b) (next .inv .log) ≡ true
+
+pub result-by : (c : Call) (w : World) (b : Bool) → lengths-ok (w .lent) ≡ b → result c w ≡ call-by b c (w .lent) (w .desk)
+unfolding call
+result-by c w b e = ap (λ q. call-by q c (w .lent) (w .desk)) e
+
+not-format : (c : Call) (w : World) → Granted c w → lengths-ok (w .lent) ≡ true → is-format c ≡ false
+unfolding is-format call-by
+not-format c w g e = go (case (is-format c))
+  where
+    format-is : (c : Call) → is-format c ≡ true → passed (outcome c (read-areas (w .lent)) (w .desk) .answer) ≡ true
+    format-is format e = format-passes (read-areas (w .lent)) (w .desk)
+    format-is begin e = clash (sym e)
+    format-is restart e = clash (sym e)
+    format-is (fetch a b) e = clash (sym e)
+    format-is (next a b) e = clash (sym e)
+    format-is (insert a b d) e = clash (sym e)
+    format-is (delete a b) e = clash (sym e)
+    format-is (commit a) e = clash (sym e)
+    format-is (abort a) e = clash (sym e)
+    format-is (write-out a) e = clash (sym e)
+
+    go : Case (is-format c) → is-format c ≡ false
+    go (no! f) = f
+    go (yes! f) = clash (sym (format-is c f) ∙ sym (ap (λ r. passed (r .answer)) (result-by c w true e)) ∙ g .no-format f)
+
+module _ (w : World) (i : Inv w) (c : Call) (g : Granted c w) where
+  by-refusal : (r : Result) → result c w ≡ r → Unpassed (w .lent) r → Reports w i c (end-call c w)
+  unfolding end-call
+  by-refusal r e u = subst (λ q. Reports w i c (ended-by c q w)) (sym e) (record { next = refused-ended w i c r u; told = λ b x p. clash (sym p ∙ ap (λ q. passed (q .answer)) e ∙ u .answer) })
+
+  cut-by-refusal : (j : ℕ) (left : Rubble) (r : Result) → result c w ≡ r → Unpassed (w .lent) r → Next (i .log) (cut-call c j left w)
+  unfolding cut-call
+  cut-by-refusal j left r e u = subst (λ q. Next (i .log) (cut-by c j left q w)) (sym e) (refused-cut w i c r u j left)
+
+  goes : lengths-ok (w .lent) ≡ true → passed (does c w .answer) ≡ true → Going (i .origin) w (i .log) c
+  unfolding call-by
+  goes e p = going w i e c (g .numbers) (not-format c w g e) (λ s. g .restart-first s (ap (λ r. passed (r .answer)) (result-by c w true e) ∙ p)) p
+
+  by-passing : lengths-ok (w .lent) ≡ true → passed (does c w .answer) ≡ true → Going (i .origin) w (i .log) c → Reports w i c (end-call c w)
+  unfolding end-call call-by lent-after book-after
+  by-passing e p x =
+      let t = ended-next (i .origin) (x .n) (x .m) (w .lent) (x .lengths) (i .log) (x .sure) (x .log) (x .rest) (x .longer) (x .fixed) (x .ranged) c (does c w) (x .ends) (w .book) (i .slides) (x .tells) (does c w .desk) (w .since-cut && not (passed (does c w .answer))) in
+      subst (λ q. Reports w i c (ended-by c q w)) (sym (result-by c w true e))
+      (subst (λ q. Reports w i c (record { lent = lent-after (length (does c w .stores)) (call-by true c (w .lent) (w .desk)) (w .lent); desk = does c w .desk; book = book-after q c (does c w .answer) (w .book); since-cut = w .since-cut && not (passed (does c w .answer)) })) (sym p)
+      (record { next = t .next; told = λ b f q. t .told b f }))
+
+  cut-by-passing : (j : ℕ) (left : Rubble) → lengths-ok (w .lent) ≡ true → passed (does c w .answer) ≡ true → Going (i .origin) w (i .log) c → Next (i .log) (cut-call c j left w)
+  unfolding cut-call call-by lent-after
+  cut-by-passing j left e p x =
+      let t = cut-next (i .origin) (x .n) (x .m) (w .lent) (x .lengths) (i .log) (x .sure) (x .log) (x .rest) (x .longer) (x .fixed) (x .ranged) c (does c w) (x .ends) (w .book) (i .slides) (x .tells) j left in
+      subst (λ q. Next (i .log) (cut-by c j left q w)) (sym (result-by c w true e))
+      (subst (λ q. Next (i .log) (record { lent = cut-in (i .origin) (x .n) (x .m) (w .lent) (x .lengths) (i .log) (x .sure) (x .log) (x .rest) (x .longer) (x .fixed) (x .ranged) c (does c w) (x .ends) (w .book) (i .slides) (x .tells) j left .lent; desk = left .desk; book = book-cut c (q && leb (length (does c w .stores)) j) (w .book); since-cut = true })) (sym p) t)
+
+  -- A CALL THAT ENDED.
+  pub ended-reports : Reports w i c (end-call c w)
+  ended-reports = go (case (lengths-ok (w .lent)))
+    where
+      by : lengths-ok (w .lent) ≡ true → Case (passed (does c w .answer)) → Reports w i c (end-call c w)
+      by e (yes! p) = by-passing e p (goes e p)
+      by e (no! p) = by-refusal (call-by true c (w .lent) (w .desk)) (result-by c w true e) (refused-bytes c (w .lent) (w .desk) _ _ (lengths-said (w .lent) e) p)
+
+      go : Case (lengths-ok (w .lent)) → Reports w i c (end-call c w)
+      go (yes! e) = by e (case (passed (does c w .answer)))
+      go (no! e) = by-refusal (call-by false c (w .lent) (w .desk)) (result-by c w false e) (wrong-lengths c (w .lent) (w .desk))
+
+  -- A CALL THAT WAS CUT.
+  pub cut-keeps : (j : ℕ) (left : Rubble) → Next (i .log) (cut-call c j left w)
+  cut-keeps j left = go (case (lengths-ok (w .lent)))
+    where
+      by : lengths-ok (w .lent) ≡ true → Case (passed (does c w .answer)) → Next (i .log) (cut-call c j left w)
+      by e (yes! p) = cut-by-passing j left e p (goes e p)
+      by e (no! p) = cut-by-refusal j left (call-by true c (w .lent) (w .desk)) (result-by c w true e) (refused-bytes c (w .lent) (w .desk) _ _ (lengths-said (w .lent) e) p)
+
+      go : Case (lengths-ok (w .lent)) → Next (i .log) (cut-call c j left w)
+      go (yes! e) = by e (case (passed (does c w .answer)))
+      go (no! e) = cut-by-refusal j left (call-by false c (w .lent) (w .desk)) (result-by c w false e) (wrong-lengths c (w .lent) (w .desk))

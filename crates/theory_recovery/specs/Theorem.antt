@@ -1,0 +1,238 @@
+-- DEMAND 3: for any list of calls, cuts and growth since the last finished formatting.
+use Prim.Native.Nat.{ℕ, _+_, _*_, _/_, _≤_}
+use mathlib.Core.Path.{_≡_, refl, sym, ap, _∙_, subst, subst₂}
+use mathlib.Core.Logic.{_⊎_, inl, inr}
+use mathlib.Core.Bool.{true, false}
+use mathlib.Core.List.{List, [], _∷_, _++_, append-assoc, append-nil, map}
+use native.Mathlib.Omega.{arith}
+use lib.ListN.{length, take, replicate}
+use lib.Seq.{take-all}
+use Rattle.def_base.specs.Tests.{any}
+use Rattle.def_layout.specs.declared.Desk.{Desk}
+use Rattle.def_layout.specs.Pages.{Page, map-bits}
+use Rattle.def_layout.specs.PageBytes.{page}
+use Rattle.def_layout.specs.Sizes.{page-size, slot-size}
+use Rattle.def_layout.specs.RecordBytes.{empty}
+use Rattle.def_model.specs.Areas.{pages-of}
+use Rattle.def_model.specs.Answers.{answer-numbers}
+use Rattle.def_model.specs.TreeRules.{leaf-records}
+use Rattle.def_model.specs.Batches.{open-batches, told}
+use Rattle.def_model.specs.Calls.{formatted-pages, format-stores, format-areas, run-side}
+use Rattle.def_model.specs.Restart.{stable-log, redone, restarted}
+use Rattle.def_model.specs.Redo.{replay}
+use Rattle.def_model.specs.OnBytes
+use Rattle.def_model.specs.OnBytes.{format, restart, commit, outcome, Lent, call, call-by, read-areas, read-pages, pages-bytes, log-bytes, lengths-ok, lent-after, store-all-bytes}
+use Rattle.def_recovery.specs.Book.{new-book}
+use Rattle.def_recovery.specs.Events.{World, Event, ended, cut, grown, Allowed, AllAllowed, formatted, happen, happen-all, passes}
+use Rattle.def_recovery.specs.Demand3.{Demand3, WantsExactly, FinishesOrWants, RedoBalances, LeavesAreSlides, reason, stored, is-commit-of}
+use Rattle.theory_ledger.specs.Telling.{slides-of, slides-from}
+use Rattle.theory_room.specs.Restarting.{restarted-cases, restarted-finishes, restarted-wants-room, restarted-wants-pages, restarted-wants-room-first, some-room-does}
+use Rattle.law_areas.specs.Typed.{formatted-length}
+use Rattle.theory_history.specs.Origin.{Origin, origin-pages, origin-length}
+use Rattle.theory_history.specs.FormattedOrigin.{formatted-origin, formatted-is}
+use Rattle.theory_history.specs.Start.{slides-after, pages-after, start-behind}
+use Rattle.theory_history.specs.Growing.{start-history}
+use Rattle.theory_history.specs.Redoing.{Image, image-tree, redone-standing, stable-log-is}
+use Rattle.theory_ranges.specs.Histories.{RangedHistory, ranged-history-start, ranged-history-trail, ranged-standing}
+use Rattle.law_areas.specs.Lengths.{Lengths, lengths-said}
+use Rattle.law_areas.specs.Pages.{HoldsPages, AllPagesFit, pages-hold, pages-length, pages-read-of, filled-whole, read-pages-length}
+use Rattle.law_areas.specs.Logs.{HoldsLog, no-records, empty-bytes, read-log-length}
+use Rattle.law_areas.specs.Formatting
+use Rattle.theory_calls.specs.Stories.{story, sheets-of}
+use Rattle.theory_calls.specs.Restarting.{restart-reason, finished, restart-work, restart-within}
+use Rattle.theory_recovery.specs.Invariant.{Sure, live, Inv}
+use Rattle.theory_recovery.specs.Fixing.{fixed-none, any-first}
+use Rattle.theory_recovery.specs.Passed.{Next}
+use Rattle.theory_recovery.specs.Going
+use Rattle.theory_recovery.specs.Steps.{grown-next, ended-reports, cut-keeps, result-by}
+
+-- ---- the start
+
+-- A register that holds an origin and no records, and a book with the origin's slides.
+pub start-inv : (o : Origin) (n : ℕ) → o .least ≤ n → n ≤ map-bits → (w : World) → w .book ≡ story o []
+    → HoldsPages (w .lent .stable-pages) (origin-pages o n) → HoldsLog (w .lent .stable-log) [] → HoldsPages (w .lent .work-pages) (origin-pages o n) → HoldsLog (w .lent .work-log) [] → Inv w
+unfolding pages-after replay story
+start-inv o n least most w told sp sl wp wl =
+    let x = start-history o n least most in
+    record {
+      origin = o;
+      n = n;
+      log = [];
+      slides = ap (λ b. b .slides) told;
+      sure = record {
+        least = least;
+        most = most;
+        pages = origin-pages o n;
+        count = origin-length o n;
+        stored = sp;
+        logged = sl;
+        history = x;
+        ranged = ranged-history-start o n;
+        behind = start-behind o n;
+      };
+      mode = live [] (record { pages = wp; logged = wl; history = x; ranged = ranged-history-start o n; rest = []; longer = refl; fixed = fixed-none o [] }) told;
+    }
+
+module _ (l : Lent) (d : Desk) (lens : lengths-ok l ≡ true) where
+  n : ℕ
+  n = length (read-areas l .work .pages)
+
+  m : ℕ
+  m = length (read-areas l .work .log)
+
+  sizes : Lengths l n m
+  unfolding n m read-areas
+  sizes =
+      let z = lengths-said l lens in
+      subst₂ (Lengths l) (sym (read-pages-length (length (l .work-pages) / page-size) (l .work-pages) (z .work-pages))) (sym (read-log-length (length (l .work-log) / slot-size) (l .work-log) (z .work-log))) z
+
+  done : World
+  done = let r = call-by true format l d in record { lent = lent-after (length (r .stores)) r l; desk = r .desk; book = new-book; since-cut = false }
+
+  done-inv : Inv done
+  unfolding done call-by outcome format-areas lent-after n m story sheets-of slides-of slides-from open-batches told formatted-origin
+  done-inv =
+      let ts = format-stores (formatted-pages n) m in
+      let f = Formatting.formatted l (formatted-pages n) m (subst (λ q. Lengths l q m) (sym (formatted-length n (omega (arith, sizes .least-pages)))) sizes) in
+      let all : store-all-bytes (take (length ts) ts) l ≡ store-all-bytes ts l = ap (λ q. store-all-bytes q l) (take-all (length ts) ts (omega arith)) in
+      let g = sizes .least-pages in
+      let e : formatted-pages n ≡ origin-pages formatted-origin n = sym (formatted-is n (omega arith)) in
+      let k : HoldsLog (log-bytes (replicate m empty)) [] = subst (λ b. HoldsLog b []) (sym (empty-bytes m)) (no-records (slot-size * m)) in
+      start-inv formatted-origin n (omega arith) (sizes .most-pages) done refl
+      (subst (λ q. HoldsPages (q .stable-pages) (origin-pages formatted-origin n)) (sym all) (subst (HoldsPages _) e (f .stable-pages)))
+      (subst (λ q. HoldsLog (q .stable-log) []) (sym all) (f .stable-log))
+      (subst (HoldsPages _) e (pages-hold (formatted-pages n))) k
+
+  pub formatted-inv : Inv (formatted l d)
+  unfolding formatted call done
+  formatted-inv = subst (λ b. Inv (let r = call-by b format l d in record { lent = lent-after (length (r .stores)) r l; desk = r .desk; book = new-book; since-cut = false })) (sym lens) done-inv
+
+-- ---- any list of events
+
+event-keeps : (e : Event) (w : World) (i : Inv w) → Allowed e w → Next (i .log) (happen e w)
+unfolding Allowed happen
+event-keeps (ended c) w i a = ended-reports w i c a .next
+event-keeps (cut c j left) w i a = cut-keeps w i c a j left
+event-keeps (grown a b c d) w i x = grown-next a b c d w i
+
+pub all-keep : (es : List Event) (w : World) (i : Inv w) → AllAllowed es w → Next (i .log) (happen-all es w)
+unfolding AllAllowed happen-all
+all-keep [] w i a = record { inv = i; more = []; longer = sym (append-nil (i .log)) }
+all-keep (e ∷ es) w i a =
+    let x = event-keeps e w i (a .0) in
+    let y = all-keep es (happen e w) (x .inv) (a .1) in
+    record { inv = y .inv; more = x .more ++ y .more; longer = y .longer ∙ ap (_++ y .more) (x .longer) ∙ append-assoc (i .log) (x .more) (y .more) }
+
+-- A commit that was reported is in the log from then on.
+pub reported-stays : (before later : List Event) (b : ℕ) (w : World) (i : Inv w) → AllAllowed (before ++ ended (commit b) ∷ later) w → passes (commit b) (happen-all before w) ≡ true
+    → (x : Inv (happen-all (before ++ ended (commit b) ∷ later) w)) × (any (is-commit-of b) (x .log) ≡ true)
+unfolding AllAllowed happen-all Allowed happen
+reported-stays [] later b w i a p =
+    let x = ended-reports w i (commit b) (a .0) in
+    let y = all-keep later (happen (ended (commit b)) w) (x .next .inv) (a .1) in
+    (y .inv, subst (λ q. any (is-commit-of b) q ≡ true) (sym (y .longer)) (any-first (is-commit-of b) (x .next .inv .log) (y .more) (x .told b refl p)))
+reported-stays (e ∷ before) later b w i a p = reported-stays before later b (happen e w) (event-keeps e w i (a .0) .inv) (a .1) p
+
+-- ---- the further restart
+
+module _ (w : World) (i : Inv w) (lens : lengths-ok (w .lent) ≡ true) where
+  k : ℕ
+  k = Going.n w i lens
+
+  s : ℕ
+  s = Going.m w i lens
+
+  sure : Sure (i .origin) k (w .lent) (i .log)
+  unfolding k
+  sure = Going.sure w i lens
+
+  shows : Image (i .origin) k s (i .log) (stored w .stable)
+  unfolding k s
+  shows = Going.shows w i lens
+
+  least : i .origin .least ≤ k
+  least = sure .least
+
+  most : k ≤ map-bits
+  most = sure .most
+
+  few : s ≤ 16384
+  unfolding s
+  few = Going.z w i lens .most-slots
+
+  reason-is : reason w ≡ restarted (stored w) .stop
+  unfolding call-by
+  reason-is = ap (λ r. answer-numbers (r .answer) .reason) (result-by restart w true lens) ∙ restart-reason (i .origin) k s least most (i .log) (sure .history) (stored w) (w .desk) shows
+
+  pub answers : FinishesOrWants w
+  answers = go (restarted-cases (stored w))
+    where
+      go : (restarted (stored w) .stop ≡ 0) ⊎ ((restarted (stored w) .stop ≡ 17) ⊎ (restarted (stored w) .stop ≡ 18)) → FinishesOrWants w
+      go (inl e) = inl (reason-is ∙ e)
+      go (inr (inl e)) = inr (inl (reason-is ∙ e))
+      go (inr (inr e)) = inr (inr (reason-is ∙ e))
+
+  pub balances : RedoBalances w
+  balances = image-tree (i .origin) k s least most (i .log) (sure .history) (stored w) shows
+
+  -- The pages that it leaves fit their bytes.
+  pages-fit : restarted (stored w) .stop ≡ 0 → AllPagesFit (restarted (stored w) .pages)
+  unfolding redone
+  pages-fit z =
+      let f = finished (i .origin) k s least most (i .log) (sure .history) (stored w) (w .desk) shows z in
+      let st = redone-standing (i .origin) k s least most (i .log) (sure .history) (stored w) shows in
+      let d = f .standing .core .due in
+      let t = restart-within (i .origin) k s least most (i .log) (sure .history) (stored w) (w .desk) shows in
+      let u = few in
+      let l = stable-log-is (i .origin) k s least most (i .log) (sure .history) (stored w) shows in
+      let h = ranged-history-trail (i .origin) k most (f .trail) st (omega arith) (subst (RangedHistory (i .origin) k) (sym l) (sure .ranged)) in
+      ranged-standing (i .origin) k most (restarted (stored w)) (slides-after (i .origin) (i .log)) (f .standing) h .pages
+
+  read-back : (xs : List Page) → AllPagesFit xs → pages-of (read-pages (pages-bytes (map page xs))) ≡ xs
+  read-back xs h = pages-read-of (length xs) xs (pages-hold xs) (pages-length xs) h ∙ filled-whole (length xs) xs refl
+
+  pub leaves : LeavesAreSlides w
+  unfolding call-by run-side
+  leaves e =
+      let z : restarted (stored w) .stop ≡ 0 = sym reason-is ∙ e in
+      let f = finished (i .origin) k s least most (i .log) (sure .history) (stored w) (w .desk) shows z in
+      ap (λ r. leaf-records (pages-of (read-pages (r .work-pages)))) (result-by restart w true lens)
+      ∙ ap (λ r. leaf-records (pages-of (read-pages (pages-bytes (r .pages))))) (restart-work (i .origin) k s least most (i .log) (sure .history) (stored w) (w .desk) shows z)
+      ∙ ap leaf-records (read-back (restarted (stored w) .pages) (pages-fit z)) ∙ f .leaves ∙ sym (i .slides)
+
+  pub wants : WantsExactly w
+  wants =
+      record {
+        finishes = λ q a b. reason-is ∙ restarted-finishes (stored w) q a b;
+        wants-room = λ q a b. reason-is ∙ restarted-wants-room (stored w) q a b;
+        wants-pages = λ q a b. reason-is ∙ restarted-wants-pages (stored w) q a b;
+        wants-room-first = λ q a b. reason-is ∙ restarted-wants-room-first (stored w) q a b;
+        some-room-does = some-room-does (w .lent);
+      }
+
+  pub logged : stable-log (stored w) ≡ i .log
+  logged = stable-log-is (i .origin) k s least most (i .log) (sure .history) (stored w) shows
+
+-- ---- the theorem
+
+pub demand-3 : Demand3
+unfolding Demand3
+demand-3 l d lens es a =
+    let w = formatted l d in
+    let i = formatted-inv l d lens in
+    let x = all-keep es w i a .inv in
+    record {
+      answers = λ z. answers (happen-all es w) x z;
+      balances = λ z. balances (happen-all es w) x z;
+      leaves = λ z. leaves (happen-all es w) x z;
+      wants = λ z. wants (happen-all es w) x z;
+      reported = λ z before later b e p. reports es z before later b e p a;
+    }
+  where
+    reports : (es : List Event) → lengths-ok (happen-all es (formatted l d) .lent) ≡ true → (before later : List Event) (b : ℕ) → es ≡ before ++ ended (commit b) ∷ later → passes (commit b) (happen-all before (formatted l d)) ≡ true → AllAllowed es (formatted l d)
+        → any (is-commit-of b) (stable-log (stored (happen-all es (formatted l d)))) ≡ true
+    reports es z before later b e p a =
+        let f : List Event = before ++ ended (commit b) ∷ later in
+        let (x, y) = reported-stays before later b (formatted l d) (formatted-inv l d lens) (subst (λ q. AllAllowed q (formatted l d)) e a) p in
+        let z′ : lengths-ok (happen-all f (formatted l d) .lent) ≡ true = subst (λ q. lengths-ok (happen-all q (formatted l d) .lent) ≡ true) e z in
+        subst (λ q. any (is-commit-of b) (stable-log (stored (happen-all q (formatted l d)))) ≡ true) (sym e) (subst (λ q. any (is-commit-of b) q ≡ true) (sym (logged (happen-all f (formatted l d)) x z′)) y)

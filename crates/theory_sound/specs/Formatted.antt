@@ -1,0 +1,113 @@
+-- FORMAT LEAVES SOUND AREAS AND A SOUND DESK, whatever was there.
+use Prim.Native.Nat.{ℕ, suc, _+_, _-_, _≤_}
+use mathlib.Core.Path.{_≡_, refl, sym, ap, _∙_, subst}
+use mathlib.Core.Bool.{true}
+use mathlib.Core.List.{List, [], _∷_, _++_, append-assoc, map}
+use native.Mathlib.Omega.{arith}
+use lib.ListN.{length, set, replicate, length-append, length-replicate}
+use Rattle.def_layout.specs.declared.Desk.{Desk}
+use Rattle.def_layout.specs.Desks.{eight-rows}
+use Rattle.def_layout.specs.Numbers.{tab}
+use Rattle.def_layout.specs.Pages.{Page, map-bits}
+use Rattle.def_layout.specs.PageBytes.{page}
+use Rattle.def_layout.specs.RecordBytes.{Slot, empty}
+use Rattle.def_model.specs.Areas.{Side, Areas, Store, store-page, store, store-all, slot-stores}
+use Rattle.def_model.specs.Log.{slots-from, log-area}
+use Rattle.def_model.specs.Batches.{open-batches, told, desk-of, pending-count}
+use Rattle.def_model.specs.Update.{Run}
+use Rattle.def_model.specs.Sound.{sound, same-slots}
+use Rattle.def_model.specs.Calls.{run-side, formatted-pages, page-stores, format-stores, format-areas}
+use Rattle.def_model.specs.OnBytes.{format, outcome}
+use Rattle.theory_history.specs.Origin.{Origin, origin-pages}
+use Rattle.theory_history.specs.FormattedOrigin.{formatted-origin, formatted-is}
+use Rattle.theory_history.specs.Start.{slides-after, pages-after}
+use Rattle.theory_history.specs.Core.{Core}
+use Rattle.theory_history.specs.History.{history-now, core-same, run-after}
+use Rattle.theory_history.specs.Growing.{start-history}
+use Rattle.law_areas.specs.Typed.{log-back}
+use Rattle.def_model.specs.Redo.{replay}
+use Rattle.theory_sound.specs.StoredPart.{Stores, stores-ok, slots-same}
+use Rattle.theory_sound.specs.ToSound.{sound-again}
+use Rattle.theory_sound.specs.SoundAfter.{Reserved, used-within, reserves-hold}
+use Rattle.theory_sound.specs.SoundKept.{areas-after}
+
+-- ---- format
+
+-- A page store leaves the log.
+pages-leave : (p : ℕ) (xs : List Page) (s : Side) → store-all (page-stores p xs) s .log ≡ s .log
+unfolding store-all store page-stores
+pages-leave p [] s = refl
+pages-leave p (x ∷ xs) s = pages-leave (suc p) xs (store (store-page p x) s)
+
+stores-then : (a b : List Store) (s : Side) → store-all (a ++ b) s ≡ store-all b (store-all a s)
+unfolding store-all
+stores-then [] b s = refl
+stores-then (t ∷ a) b s = stores-then a b (store t s)
+
+set-seam : (pre : List Slot) (x y : Slot) (post : List Slot) → set (pre ++ x ∷ post) (length pre) y ≡ pre ++ y ∷ post
+set-seam [] x y post = refl
+set-seam (p ∷ pre) x y post = ap (p ∷_) (set-seam pre x y post)
+
+-- Every slot is written.
+slots-written : (xs pre old : List Slot) (s : Side) → s .log ≡ pre ++ old → length old ≡ length xs → store-all (slot-stores (suc (length pre)) xs) s .log ≡ pre ++ xs
+unfolding store-all slot-stores store
+slots-written [] pre [] s e l = e
+slots-written [] pre (o ∷ old) s e l = absurd (omega arith)
+slots-written (x ∷ xs) pre [] s e l = absurd (omega arith)
+slots-written (x ∷ xs) pre (o ∷ old) s e l =
+    let k : suc (length pre) - 1 ≡ length pre = omega arith in
+    let q : set (s .log) (suc (length pre) - 1) x ≡ (pre ++ x ∷ []) ++ old = (λ i. set (e i) (k i) x) ∙ set-seam pre o x old ∙ sym (append-assoc pre (x ∷ []) old) in
+    let n : length (pre ++ x ∷ []) ≡ suc (length pre) = length-append pre (x ∷ []) ∙ omega arith in
+    let t : Side = record { pages = s .pages; log = set (s .log) (suc (length pre) - 1) x } in
+    subst (λ z. store-all (slot-stores (suc z) xs) t .log ≡ (pre ++ x ∷ []) ++ xs) n (slots-written xs (pre ++ x ∷ []) old t q (omega arith)) ∙ append-assoc pre (x ∷ []) xs
+
+pub formatted-log : (pages : List Page) (m : ℕ) (s : Side) → length (s .log) ≡ m → store-all (format-stores pages m) s .log ≡ replicate m empty
+unfolding format-stores
+formatted-log pages m s e =
+    let l = length-replicate m empty in
+    ap (λ z. z .log) (stores-then (page-stores 0 pages) (slot-stores 1 (replicate m empty)) s)
+    ∙ slots-written (replicate m empty) [] (s .log) (store-all (page-stores 0 pages) s) (pages-leave 0 pages s) (omega arith)
+
+-- AREAS THAT HOLD AN ORIGIN, AND NO RECORDS, ARE SOUND.
+module _ (o : Origin) (n m : ℕ) (least : o .least ≤ n) (few : n ≤ map-bits) (stable : Side) (blank : stable .log ≡ replicate m empty) where
+  t : Run
+  t = record { pages = origin-pages o n; log = []; due = 1; room = m; stop = 0 }
+
+  core : Core n t (slides-after o [])
+  unfolding t pages-after replay
+  core = core-same n (run-after o n []) t (slides-after o []) (slides-after o []) refl refl refl refl refl (history-now o n [] (start-history o n least few))
+
+  stored : Stores stable 0 (t .log)
+  unfolding t log-area slots-from
+  stored =
+      let l = length-replicate m empty in
+      let k : length (stable .log) - 0 ≡ m = let q : length (stable .log) ≡ length (replicate m empty) = ap length blank in omega arith in
+      (omega arith, subst (λ z. same-slots z (replicate (length (stable .log) - 0) empty) ≡ true) (sym blank) (subst (λ z. same-slots (replicate m empty) (replicate z empty) ≡ true) (sym k) (slots-same (replicate m empty))))
+
+  fits : length (t .log) ≤ m
+  unfolding t
+  fits = omega arith
+
+  reserves : Reserved m (t .pages) (t .log) (open-batches (t .log))
+  unfolding t open-batches told pending-count
+  reserves = let u = used-within (origin-pages o n) in record { slots-free = omega arith; pages-free = omega arith }
+
+  side-is : run-side m t ≡ record { pages = map page (origin-pages o n); log = replicate m empty }
+  unfolding t run-side log-area slots-from
+  side-is = let e : m - 0 ≡ m = omega arith in ap (λ z. record { pages = map page (origin-pages o n); log = replicate z empty }) e
+
+  pub origin-sound : sound (record { work = record { pages = map page (origin-pages o n); log = replicate m empty }; stable = stable }) (desk-of [] 0) ≡ true
+  unfolding t desk-of run-side
+  origin-sound =
+      (λ i. sound (record { work = sym side-is i; stable = stable }) (desk-of [] 0))
+      ∙ sound-again n m few t (slides-after o []) core fits stable 0 (stores-ok (record { work = run-side m t; stable = stable }) (desk-of (t .log) 0) (t .log) (log-back m (t .log)) stored) (reserves-hold m (t .pages) (t .log) (open-batches (t .log)) reserves)
+
+-- A FORMATTED REGISTER IS SOUND.
+pub format-sound : (a : Areas) (d : Desk) → 2 ≤ length (a .work .pages) → length (a .work .pages) ≤ map-bits → length (a .stable .log) ≡ length (a .work .log) → sound (areas-after format a d) (outcome format a d .desk) ≡ true
+unfolding outcome format-areas formatted-origin desk-of open-batches told eight-rows tab
+format-sound a d least few equal =
+    let n = length (a .work .pages) in
+    let m = length (a .work .log) in
+    let stable = store-all (format-stores (formatted-pages n) m) (a .stable) in
+    (λ i. sound (record { work = record { pages = map page (sym (formatted-is n least) i); log = replicate m empty }; stable = stable }) (desk-of [] 0))
+    ∙ origin-sound formatted-origin n m least few stable (formatted-log (formatted-pages n) m (a .stable) equal)

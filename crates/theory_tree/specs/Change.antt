@@ -1,0 +1,11 @@
+pub mod LevelChanges
+pub mod Roles
+pub mod Frames
+pub mod Split
+pub mod Link
+pub mod Edit
+pub mod Unlink
+pub mod Merge
+pub mod Share
+pub mod Raise
+pub mod Lower

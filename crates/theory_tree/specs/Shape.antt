@@ -1,0 +1,9 @@
+pub mod Levels
+pub mod Chains
+pub mod Trees
+pub mod Marks
+pub mod Sizes
+pub mod Rules
+pub mod Exact
+pub mod Height
+pub mod Formatted

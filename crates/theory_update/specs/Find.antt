@@ -1,0 +1,5 @@
+pub mod Search
+pub mod Places
+pub mod Halves
+pub mod Leaf
+pub mod Fetching

@@ -1,0 +1,6 @@
+pub mod Share
+pub mod Twins
+pub mod Joining
+pub mod Neighbours
+pub mod Restocking
+pub mod Descent
