@@ -20,13 +20,29 @@ def read_edit(path):
     return edit
 
 
+def find_spots(edit, text):
+    """Where the old texts stand in the file's text, as (start, end, new text), and what is wrong with the edit, if anything."""
+    spots = []
+    for old, new in edit['pairs']:
+        if text.count(old) != 1:
+            return [], f'the old text stands {text.count(old)} times in {edit["file"]}'
+        start = text.index(old)
+        spots.append((start, start + len(old), new))
+    return spots, None if spots else 'the edit changes nothing'
+
+
+def change_text(text, spots):
+    """The text with all spots changed, each where it stood in the text as it was: one's new text may contain another's old one."""
+    for start, end, new in sorted(spots, reverse=True):
+        text = text[:start] + new + text[end:]
+    return text
+
+
 def apply_edit(edit, copy):
     """Changes the file in the copy, or says what is wrong with the edit."""
     path = os.path.join(copy, edit['file'])
     text = open(path, encoding='utf-8').read()
-    for old, new in edit['pairs']:
-        if text.count(old) != 1:
-            return f'the old text stands {text.count(old)} times in {edit["file"]}'
-        text = text.replace(old, new)
-    open(path, 'w', encoding='utf-8').write(text)
-    return None
+    spots, wrong = find_spots(edit, text)
+    if not wrong:
+        open(path, 'w', encoding='utf-8').write(change_text(text, spots))
+    return wrong
