@@ -1,5 +1,5 @@
 /* The drive's file: where the copies stand, and in which order they are written and flushed. */
-#define _POSIX_C_SOURCE 200809L
+#define _GNU_SOURCE /* renameat2 */
 #include "drive.h"
 #include "copy.h"
 #include <errno.h>
@@ -27,7 +27,8 @@ static off_t copy_at(uint32_t place, int which)
     return ((off_t)place * COPIES + which) * BLOCK_BYTES;
 }
 
-/* Writes the whole block: a part of it would have to be read first, and after a power failure it may be unreadable. */
+/* Writes the whole block: a part of it would have to be read first, and after a power failure it may be unreadable. A system may write a
+ * part only and say so, and where the disk is full it says so at the next try. */
 static void put_copy(struct drive *d, uint32_t place, int which, const uint8_t bytes[DRIVE_PLACE_BYTES])
 {
     uint8_t block[BLOCK_BYTES] = { 0 };
@@ -44,19 +45,38 @@ static void put_copy(struct drive *d, uint32_t place, int which, const uint8_t b
 static int get_copy(struct drive *d, uint32_t place, int which, uint8_t bytes[DRIVE_PLACE_BYTES])
 {
     uint8_t copy[COPY_BYTES];
-    ssize_t got;
-    do
-        got = pread(d->file, copy, sizeof copy, copy_at(place, which));
-    while (got < 0 && errno == EINTR);
-    return got == COPY_BYTES && copy_unseal(copy, place, bytes);
+    for (size_t done = 0; done < sizeof copy;) {
+        ssize_t got = pread(d->found, copy + done, sizeof copy - done, copy_at(place, which) + (off_t)done);
+        if (got == 0 || (got < 0 && errno != EINTR))
+            return 0;
+        done += got < 0 ? 0 : (size_t)got;
+    }
+    return copy_unseal(copy, place, bytes);
 }
 
 /* ---- places */
 
-void drive_flush(struct drive *d)
+/* A flush that failed is not tried again: the system may have taken the blocks for written, and the second try would find nothing to do. */
+static void flush(struct drive *d)
 {
     if (fdatasync(d->file) != 0)
         drive_fail("flush");
+}
+
+/* The first copy is written first, so where both are whole it is the newer one, and the store has happened. Where it is not whole, its
+ * store has not happened: nobody was told of it, for that takes both copies. */
+enum drive_finding drive_read(struct drive *d, uint32_t place, uint8_t bytes[DRIVE_PLACE_BYTES])
+{
+    uint8_t second[DRIVE_PLACE_BYTES];
+    int has_first = get_copy(d, place, 0, bytes), has_second = get_copy(d, place, 1, second);
+    if (has_first && has_second)
+        return memcmp(bytes, second, sizeof second) == 0 ? DRIVE_WHOLE : DRIVE_SECOND_BEHIND;
+    if (has_first)
+        return DRIVE_SECOND_DAMAGED;
+    if (!has_second)
+        return DRIVE_BOTH_DAMAGED;
+    memcpy(bytes, second, sizeof second);
+    return DRIVE_FIRST_DAMAGED;
 }
 
 void drive_fill(struct drive *d, uint32_t place, const uint8_t bytes[DRIVE_PLACE_BYTES])
@@ -68,37 +88,20 @@ void drive_fill(struct drive *d, uint32_t place, const uint8_t bytes[DRIVE_PLACE
 void drive_store(struct drive *d, uint32_t place, const uint8_t bytes[DRIVE_PLACE_BYTES])
 {
     put_copy(d, place, 0, bytes);
-    drive_flush(d);
+    flush(d); /* before the other copy is touched */
     put_copy(d, place, 1, bytes);
-    drive_flush(d);
+    flush(d);
 }
 
-/* The first copy is written first, so where both are whole it is the newer one, and the store has happened. Where it is not whole, its
- * store has not happened: nobody was told of it, for that takes both copies. */
-void drive_read(struct drive *d, uint32_t place, uint8_t bytes[DRIVE_PLACE_BYTES])
+/* ---- files and names */
+
+/* The name under which a new file is filled. */
+static void name_before(char name[NAME_BYTES], const char *path)
 {
-    uint8_t second[DRIVE_PLACE_BYTES];
-    int whole = get_copy(d, place, 0, bytes), second_whole = get_copy(d, place, 1, second);
-    if (!whole && !second_whole) {
-        errno = EIO;
-        drive_fail("a place has no whole copy");
+    if ((size_t)snprintf(name, NAME_BYTES, "%s.new", path) >= NAME_BYTES) {
+        errno = ENAMETOOLONG;
+        drive_fail(path);
     }
-    if (!whole)
-        memcpy(bytes, second, DRIVE_PLACE_BYTES);
-    else if (second_whole && memcmp(bytes, second, DRIVE_PLACE_BYTES) == 0)
-        return;
-    put_copy(d, place, whole ? 1 : 0, bytes);
-    drive_flush(d);
-}
-
-/* ---- the file and its name */
-
-/* Nobody else writes: a second program that opens the drive ends here. */
-static void lock(struct drive *d)
-{
-    struct flock all = { .l_type = F_WRLCK, .l_whence = SEEK_SET };
-    if (fcntl(d->file, F_SETLK, &all) != 0)
-        drive_fail("another program has it");
 }
 
 /* The name of a file stands in its folder, which is flushed by itself. */
@@ -114,57 +117,110 @@ static void flush_name(const char *path)
     close(file);
 }
 
-/* What a killed program wrote is read back, flushed or not. It is flushed before anyone reads it: else the power could fail and take away
- * what this program has already acted on. */
-static void flush_found(struct drive *d, const char *path)
+static int is_there(const char *name, struct stat *found)
 {
-    drive_flush(d);
-    flush_name(path);
+    if (lstat(name, found) == 0)
+        return 1;
+    if (errno != ENOENT)
+        drive_fail(name);
+    return 0;
 }
 
-int drive_open(struct drive *d, const char *path)
+static int leads_to(const char *name, int file)
 {
-    d->file = open(path, O_RDWR);
-    if (d->file < 0 && errno == ENOENT)
-        return 0;
-    if (d->file < 0)
-        drive_fail(path);
-    lock(d);
-    flush_found(d, path);
-    return 1;
+    struct stat named, opened;
+    if (fstat(file, &opened) != 0)
+        drive_fail(name);
+    return is_there(name, &named) && named.st_dev == opened.st_dev && named.st_ino == opened.st_ino;
 }
 
-static void name_before(char name[NAME_BYTES], const char *path)
+/* Nobody else writes: a second program that opens the file ends here, but for two that only read. Some file systems have no locks; who
+ * only reads goes on there, and says so. */
+static void lock(int file, int writes)
 {
-    if ((size_t)snprintf(name, NAME_BYTES, "%s.new", path) >= NAME_BYTES) {
-        errno = ENAMETOOLONG;
-        drive_fail(path);
+    struct flock all = { .l_type = writes ? F_WRLCK : F_RDLCK, .l_whence = SEEK_SET };
+    if (fcntl(file, F_SETLK, &all) == 0)
+        return;
+    if (writes || errno == EACCES || errno == EAGAIN)
+        drive_fail("another program has it");
+    fprintf(stderr, "drive: no lock: %s: see to it that no host has this drive\n", strerror(errno));
+}
+
+/* Opens a file and locks it. Returns a negative number where there is none. Before the lock another program may have had the
+ * file, and given it another name. So the name is looked at again, for what it leads to now. */
+static int taken(const char *name, int flags)
+{
+    for (;;) {
+        int file = open(name, O_NOFOLLOW | O_CLOEXEC | flags, S_IRUSR | S_IWUSR);
+        if (file < 0 && errno == ENOENT)
+            return -1;
+        if (file < 0)
+            drive_fail(name);
+        lock(file, (flags & O_ACCMODE) == O_RDWR);
+        if (leads_to(name, file))
+            return file;
+        close(file);
     }
 }
 
-/* What an earlier try left is written over. */
-void drive_new(struct drive *d, const char *path)
+/* Who makes a drive has the new file's lock until it has its name. So where there was no drive before that lock, it is looked for again.
+ * What an earlier try left in the new file is written over. */
+int drive_open(struct drive *d, const char *path)
 {
     char name[NAME_BYTES];
+    struct stat appeared;
     name_before(name, path);
-    d->file = open(name, O_RDWR | O_CREAT, S_IRUSR | S_IWUSR);
-    if (d->file < 0)
-        drive_fail(name);
-    lock(d);
+    d->path = path;
+    for (;;) {
+        d->found = taken(path, O_RDWR);
+        d->file = taken(name, O_RDWR | O_CREAT);
+        if (d->found >= 0 || !is_there(path, &appeared))
+            return d->found >= 0;
+        close(d->file);
+    }
 }
 
-void drive_name(struct drive *d, const char *path)
+void drive_look(struct drive *d, const char *path)
+{
+    d->path = path;
+    d->file = -1;
+    d->found = taken(path, O_RDONLY);
+    if (d->found < 0)
+        drive_fail(path);
+}
+
+/* The drive that was found, and is locked, gives its name up. Where there was none, a name that is there by now is not replaced. */
+static int named(struct drive *d, const char *name)
+{
+    return renameat2(AT_FDCWD, name, AT_FDCWD, d->path, d->found < 0 ? RENAME_NOREPLACE : 0) == 0;
+}
+
+void drive_name(struct drive *d)
 {
     char name[NAME_BYTES];
-    name_before(name, path);
+    name_before(name, d->path);
     if (fsync(d->file) != 0)
         drive_fail("flush");
-    if (rename(name, path) != 0)
-        drive_fail(path);
-    flush_name(path);
+    if (!named(d, name))
+        drive_fail(d->path);
+    flush_name(d->path);
+    if (d->found >= 0)
+        close(d->found);
+    d->found = -1;
+}
+
+void drive_give_up(struct drive *d)
+{
+    char name[NAME_BYTES];
+    name_before(name, d->path);
+    unlink(name);
+    drive_close(d);
 }
 
 void drive_close(struct drive *d)
 {
-    close(d->file);
+    if (d->found >= 0)
+        close(d->found);
+    if (d->file >= 0)
+        close(d->file);
 }

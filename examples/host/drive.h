@@ -4,8 +4,12 @@
  * the second and flushes. So at every moment one of the two is whole: the new one, or the one from before. This is Lampson and Sturgis's
  * "stable storage" (1979).
  *
- * Where a write or a flush fails, or neither copy of a place can be read, the program ends with status 2: after a failed flush nobody
- * knows what is stored, and only a fresh start finds out. */
+ * What an opened file shows may be in the system's cache and nowhere else: a killed program left it unflushed, or its flush failed and the
+ * system took the blocks for written all the same. So nothing is relied on that was found. All of it is read, filled into a new file, and
+ * flushed there, and then this file takes the name.
+ *
+ * Where a write or a flush fails the program ends with status 2. Nobody knows then what is stored,
+ * and a second flush would not tell. A fresh start begins from either copy of the one place that was being stored, which nobody was told of. */
 #ifndef DRIVE_H
 #define DRIVE_H
 
@@ -14,25 +18,36 @@
 enum { DRIVE_PLACE_BYTES = 144 };
 
 struct drive {
-    int file;
+    const char *path;
+    int found; /* the file as it was found, until the new one has its name; negative where there is none */
+    int file;  /* the new one; negative where the drive is only looked at */
 };
 
-/* Opens the drive of this name, for this program alone. Returns 0 where there is none. */
+/* What a place's two copies are. A second copy is behind where the power failed, or the program ended, between a store's two writes. */
+enum drive_finding { DRIVE_WHOLE, DRIVE_FIRST_DAMAGED, DRIVE_SECOND_DAMAGED, DRIVE_SECOND_BEHIND, DRIVE_BOTH_DAMAGED };
+
+/* Takes the drive of this name for this program alone, and begins its new file. Returns 0 where there is no drive of this name yet.
+ * The path is not copied. */
 int drive_open(struct drive *d, const char *path);
 
-/* A new drive. It has no name until drive_name gives it one, so a drive of that name has all of its first contents or is not there. */
-void drive_new(struct drive *d, const char *path);
-void drive_name(struct drive *d, const char *path);
+/* Instead of drive_open: for reading alone, beside others that do so, and without one that writes. Nothing on the drive is changed, and
+ * none of the calls below but drive_read and drive_close may follow. Where there is no drive of this name the program ends. */
+void drive_look(struct drive *d, const char *path);
 
-/* Fills a place that nothing depends on yet. It is there once drive_flush or drive_name has returned. */
+/* Reads a place of the drive that was found, until drive_name. Where both copies are damaged nothing is read. */
+enum drive_finding drive_read(struct drive *d, uint32_t place, uint8_t bytes[DRIVE_PLACE_BYTES]);
+
+/* Fills a place of the new file, until drive_name. */
 void drive_fill(struct drive *d, uint32_t place, const uint8_t bytes[DRIVE_PLACE_BYTES]);
-void drive_flush(struct drive *d);
 
-/* Reads a place, and brings its two copies to agree if the power failed while it was stored. Every place in use is read once after
- * drive_open, before anything is stored. */
-void drive_read(struct drive *d, uint32_t place, uint8_t bytes[DRIVE_PLACE_BYTES]);
+/* Flushes the new file and gives it the drive's name. When it returns, all that was filled stays, whatever happens. Until then the name
+ * leads to what was found. */
+void drive_name(struct drive *d);
 
-/* Stores a place. When it returns, the new bytes stay, whatever happens. */
+/* Instead of drive_name: there is no new file, and what was found stays. */
+void drive_give_up(struct drive *d);
+
+/* Stores a place, after drive_name. When it returns, the new bytes stay, whatever happens. */
 void drive_store(struct drive *d, uint32_t place, const uint8_t bytes[DRIVE_PLACE_BYTES]);
 
 void drive_close(struct drive *d);

@@ -1,5 +1,6 @@
 /* The register over an image: each call, and after those that store, the stores. */
 #include "host.h"
+#include "damage.h"
 #include <stdlib.h>
 #include <string.h>
 
@@ -14,49 +15,58 @@ static void lend_work(struct host *h)
     h->work_log = zeros(image_log_bytes(&h->image));
 }
 
-static void give_back_work(struct host *h)
-{
-    free(h->work_pages);
-    free(h->work_log);
-}
-
 /* ---- from start to stop */
 
-/* A format that the power cuts leaves nothing of use. So it is made in memory, and its drive has its name when all of it is there. */
-static uint32_t make(struct host *h, const char *path, size_t pages, size_t slots)
+static int is_too_large(size_t pages, size_t slots)
 {
-    image_lend(&h->image, pages, slots);
-    lend_work(h);
-    uint32_t reason = donzhikar_format(AREAS(h));
-    if (reason == DONZHIKAR_DONE)
-        image_make(&h->image, path);
-    image_give_back(&h->image);
-    give_back_work(h);
-    return reason;
+    return pages > DONZHIKAR_MOST_PAGES || slots > DONZHIKAR_MOST_SLOTS;
 }
 
+static uint32_t restarted(struct host *h)
+{
+    h->restart = donzhikar_restart(AREAS(h));
+    h->ended = donzhikar_value(h->values, 0);
+    h->redone = donzhikar_value(h->values, 1);
+    return h->restart;
+}
+
+/* A format that the power cuts leaves nothing of use, so it is made in memory. The drive has its name when all of it is there. */
 uint32_t host_start(struct host *h, const char *path, size_t pages, size_t slots)
 {
     memset(h, 0, sizeof *h);
-    if (pages > DONZHIKAR_MOST_PAGES || slots > DONZHIKAR_MOST_SLOTS)
-        return DONZHIKAR_LENGTHS;
-    if (!image_open(&h->image, path, pages, slots)) {
-        uint32_t reason = make(h, path, pages, slots);
-        if (reason != DONZHIKAR_DONE)
-            return reason;
-        if (!image_open(&h->image, path, pages, slots))
-            drive_fail(path);
-    }
+    if (is_too_large(pages, slots))
+        return DONZHIKAR_ERROR_LENGTHS;
+    int found = image_open(&h->image, path, pages, slots);
     lend_work(h);
-    uint32_t reason = donzhikar_restart(AREAS(h));
+    uint32_t reason = found ? DONZHIKAR_DONE : donzhikar_format(AREAS(h));
+    if (reason != DONZHIKAR_DONE) {
+        drive_give_up(&h->image.drive);
+        return reason;
+    }
+    image_renew(&h->image);
+    damage_print(stderr, &h->image);
+    reason = restarted(h);
     image_keep(&h->image);
     return reason;
+}
+
+/* What restart stores stays in memory. */
+uint32_t host_look(struct host *h, const char *path, size_t pages, size_t slots)
+{
+    memset(h, 0, sizeof *h);
+    h->only_reads = 1;
+    if (is_too_large(pages, slots))
+        return DONZHIKAR_ERROR_LENGTHS;
+    image_look(&h->image, path, pages, slots);
+    lend_work(h);
+    return restarted(h);
 }
 
 void host_stop(struct host *h)
 {
     image_close(&h->image);
-    give_back_work(h);
+    free(h->work_pages);
+    free(h->work_log);
 }
 
 /* ---- calls that store */

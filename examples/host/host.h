@@ -11,11 +11,17 @@ struct host {
     uint8_t *work_pages, *work_log;
     uint8_t desk[DONZHIKAR_DESK_BYTES];
     uint8_t values[DONZHIKAR_VALUES_BYTES];
+    uint32_t restart, ended, redone; /* what restart returned, and its two values */
+    int only_reads;
 };
 
 /* Opens the drive of this name, or makes one with a newly formatted register, and restarts the register. A drive that has fewer pages or
- * slots than asked for grows first. Returns what format or restart returns: after restart's 17 or 18, start again and ask for more. */
+ * slots than asked for grows first. Returns what format or restart returns: after restart's 17 or 18, start again and ask for more.
+ * Copies on the drive that were repaired are named on standard error. */
 uint32_t host_start(struct host *h, const char *path, size_t pages, size_t slots);
+
+/* The same for a drive that is there, in memory alone: nothing on the drive is changed. Calls that store may not follow. */
+uint32_t host_look(struct host *h, const char *path, size_t pages, size_t slots);
 
 void host_stop(struct host *h);
 

@@ -1,11 +1,9 @@
 /* The stable areas on a drive: which place has which page or slot, and a call's stores in order. */
 #include "image.h"
-#include "donzhikar.h"
+#include "damage.h"
+#include <errno.h>
 #include <stdlib.h>
 #include <string.h>
-
-/* The places: one for the two counts, then the pages, then the slots. Pages and slots have room to grow to their most. */
-enum { COUNTS_PLACE = 0, PAGE_PLACE = 1, SLOT_PLACE = PAGE_PLACE + DONZHIKAR_MOST_PAGES };
 
 /* ---- memory */
 
@@ -27,7 +25,8 @@ uint8_t *zeros(size_t length)
     return bytes;
 }
 
-void image_lend(struct image *im, size_t pages, size_t slots)
+/* Stable areas of so many pages and slots, all zero. */
+static void lend(struct image *im, size_t pages, size_t slots)
 {
     im->pages = pages;
     im->slots = slots;
@@ -35,14 +34,6 @@ void image_lend(struct image *im, size_t pages, size_t slots)
     im->kept_pages = zeros(image_page_bytes(im));
     im->stable_log = zeros(image_log_bytes(im));
     im->kept_log = zeros(image_log_bytes(im));
-}
-
-void image_give_back(struct image *im)
-{
-    free(im->stable_pages);
-    free(im->kept_pages);
-    free(im->stable_log);
-    free(im->kept_log);
 }
 
 /* ---- one page or slot */
@@ -68,26 +59,26 @@ static void keep_part(struct image *im, size_t place, const uint8_t *part, uint8
     memcpy(kept, part, length);
 }
 
-static void fill_part(struct image *im, size_t place, const uint8_t *part, size_t length)
+static void fill_part(struct image *im, size_t place, const uint8_t *part, uint8_t *kept, size_t length)
 {
     uint8_t bytes[DRIVE_PLACE_BYTES] = { 0 };
     memcpy(bytes, part, length);
     drive_fill(&im->drive, (uint32_t)place, bytes);
+    memcpy(kept, part, length);
 }
 
-static void read_part(struct image *im, size_t place, uint8_t *part, uint8_t *kept, size_t length)
+static void read_part(struct image *im, size_t place, uint8_t *part, size_t length)
 {
-    uint8_t bytes[DRIVE_PLACE_BYTES];
-    drive_read(&im->drive, (uint32_t)place, bytes);
+    uint8_t bytes[DRIVE_PLACE_BYTES] = { 0 };
+    im->findings[place] = (uint8_t)drive_read(&im->drive, (uint32_t)place, bytes);
     memcpy(part, bytes, length);
-    memcpy(kept, bytes, length);
 }
 
 /* ---- all of them */
 
 static void keep_log(struct image *im)
 {
-    for (size_t s = 0; s < im->slots; s++)
+    for (size_t s = 0; s < im->slots; s++) /* by rising number */
         keep_part(im, SLOT_PLACE + s, slot_of(im->stable_log, s), slot_of(im->kept_log, s), DONZHIKAR_SLOT_BYTES);
 }
 
@@ -104,70 +95,80 @@ void image_keep(struct image *im)
     keep_pages(im);
 }
 
-/* The pages and slots from these on, which nothing depends on yet: all at once, and one flush for them. */
-static void fill_from(struct image *im, size_t pages, size_t slots)
+static void fill_all(struct image *im)
 {
-    for (size_t p = pages; p < im->pages; p++)
-        fill_part(im, PAGE_PLACE + p, page_of(im->stable_pages, p), DONZHIKAR_PAGE_BYTES);
-    for (size_t s = slots; s < im->slots; s++)
-        fill_part(im, SLOT_PLACE + s, slot_of(im->stable_log, s), DONZHIKAR_SLOT_BYTES);
+    for (size_t p = 0; p < im->pages; p++)
+        fill_part(im, PAGE_PLACE + p, page_of(im->stable_pages, p), page_of(im->kept_pages, p), DONZHIKAR_PAGE_BYTES);
+    for (size_t s = 0; s < im->slots; s++)
+        fill_part(im, SLOT_PLACE + s, slot_of(im->stable_log, s), slot_of(im->kept_log, s), DONZHIKAR_SLOT_BYTES);
 }
 
 static void read_up_to(struct image *im, size_t pages, size_t slots)
 {
     for (size_t p = 0; p < pages; p++)
-        read_part(im, PAGE_PLACE + p, page_of(im->stable_pages, p), page_of(im->kept_pages, p), DONZHIKAR_PAGE_BYTES);
+        read_part(im, PAGE_PLACE + p, page_of(im->stable_pages, p), DONZHIKAR_PAGE_BYTES);
     for (size_t s = 0; s < slots; s++)
-        read_part(im, SLOT_PLACE + s, slot_of(im->stable_log, s), slot_of(im->kept_log, s), DONZHIKAR_SLOT_BYTES);
+        read_part(im, SLOT_PLACE + s, slot_of(im->stable_log, s), DONZHIKAR_SLOT_BYTES);
 }
 
 /* ---- the drive */
 
-static void counts_to(uint8_t bytes[DRIVE_PLACE_BYTES], const struct image *im)
+/* How many pages and slots a drive has. Without the counts nothing else is looked for. */
+static void read_counts(struct image *im, size_t *pages, size_t *slots)
 {
-    const size_t counts[2] = { im->pages, im->slots };
-    memset(bytes, 0, DRIVE_PLACE_BYTES);
-    for (int i = 0; i < 8; i++)
-        bytes[i] = (uint8_t)(counts[i / 4] >> (24 - 8 * (i % 4)));
+    uint8_t counts[8];
+    read_part(im, COUNTS_PLACE, counts, sizeof counts);
+    damage_ends(im);
+    *pages = donzhikar_value(counts, 0);
+    *slots = donzhikar_value(counts, 1);
+    if (*pages > DONZHIKAR_MOST_PAGES || *slots > DONZHIKAR_MOST_SLOTS) {
+        errno = EINVAL;
+        drive_fail("it has more pages or slots than a register");
+    }
 }
 
-void image_make(struct image *im, const char *path)
+static void read_all(struct image *im, size_t pages, size_t slots)
 {
-    uint8_t counts[DRIVE_PLACE_BYTES];
-    drive_new(&im->drive, path);
-    counts_to(counts, im);
-    drive_fill(&im->drive, COUNTS_PLACE, counts);
-    fill_from(im, 0, 0);
-    drive_name(&im->drive, path);
-    drive_close(&im->drive);
-}
-
-/* The added zeros are on the drive before the counts say that they are in use. */
-static void grow_from(struct image *im, size_t pages, size_t slots)
-{
-    uint8_t counts[DRIVE_PLACE_BYTES];
-    fill_from(im, pages, slots);
-    drive_flush(&im->drive);
-    counts_to(counts, im);
-    drive_store(&im->drive, COUNTS_PLACE, counts);
+    size_t had_pages, had_slots;
+    read_counts(im, &had_pages, &had_slots);
+    lend(im, pages > had_pages ? pages : had_pages, slots > had_slots ? slots : had_slots);
+    read_up_to(im, had_pages, had_slots);
+    damage_ends(im);
 }
 
 int image_open(struct image *im, const char *path, size_t pages, size_t slots)
 {
-    uint8_t counts[DRIVE_PLACE_BYTES];
-    if (!drive_open(&im->drive, path))
-        return 0;
-    drive_read(&im->drive, COUNTS_PLACE, counts);
-    size_t had_pages = donzhikar_value(counts, 0), had_slots = donzhikar_value(counts, 1);
-    image_lend(im, pages > had_pages ? pages : had_pages, slots > had_slots ? slots : had_slots);
-    read_up_to(im, had_pages, had_slots);
-    if (im->pages > had_pages || im->slots > had_slots)
-        grow_from(im, had_pages, had_slots);
-    return 1;
+    int found = drive_open(&im->drive, path);
+    if (found)
+        read_all(im, pages, slots);
+    else
+        lend(im, pages, slots);
+    return found;
+}
+
+void image_look(struct image *im, const char *path, size_t pages, size_t slots)
+{
+    drive_look(&im->drive, path);
+    read_all(im, pages, slots);
+}
+
+void image_renew(struct image *im)
+{
+    const size_t counts[2] = { im->pages, im->slots };
+    uint8_t bytes[DRIVE_PLACE_BYTES] = { 0 };
+    for (int i = 0; i < 8; i++)
+        bytes[i] = (uint8_t)(counts[i / 4] >> (24 - 8 * (i % 4)));
+    drive_fill(&im->drive, COUNTS_PLACE, bytes);
+    fill_all(im);
+    drive_name(&im->drive);
+    im->is_renewed = 1;
 }
 
 void image_close(struct image *im)
 {
     drive_close(&im->drive);
-    image_give_back(im);
+    free(im->stable_pages);
+    free(im->kept_pages);
+    free(im->stable_log);
+    free(im->kept_log);
 }

@@ -2,11 +2,21 @@
 #ifndef IMAGE_H
 #define IMAGE_H
 
+#include "donzhikar.h"
 #include "drive.h"
-#include <stddef.h>
+
+/* The places: one for the two counts, then the pages, then the slots. Pages and slots have room to grow to their most. */
+enum {
+    COUNTS_PLACE = 0,
+    PAGE_PLACE = 1,
+    SLOT_PLACE = PAGE_PLACE + DONZHIKAR_MOST_PAGES,
+    PLACES = SLOT_PLACE + DONZHIKAR_MOST_SLOTS,
+};
 
 struct image {
     struct drive drive;
+    uint8_t findings[PLACES]; /* what was found at each place, a drive_finding */
+    int is_renewed;           /* so all of it is whole now */
     size_t pages, slots;
     uint8_t *stable_pages, *stable_log;
     uint8_t *kept_pages, *kept_log; /* what the drive holds, by which a call's stores are found */
@@ -18,16 +28,16 @@ size_t image_log_bytes(const struct image *im);
 /* So many bytes of zeros, or the end of the program. */
 uint8_t *zeros(size_t length);
 
-/* Stable areas of so many pages and slots, all zero, and on no drive. */
-void image_lend(struct image *im, size_t pages, size_t slots);
-void image_give_back(struct image *im);
-
-/* Makes a new drive of this name that holds the stable areas: all of it or none. It is closed again. */
-void image_make(struct image *im, const char *path);
-
-/* Reads the stable areas from the drive of this name. Where it has fewer pages or slots than asked for, zeros are added, on the drive too.
- * Returns 0 where there is no such drive. */
+/* Reads the stable areas from the drive of this name. Where it has fewer pages or slots than asked for, zeros are added. Returns 0, with
+ * areas of zeros, where there is no such drive. Nothing is relied on before image_renew: what is read may not stay.
+ * Where both copies of a place are damaged the program ends with status 2, and says which. */
 int image_open(struct image *im, const char *path, size_t pages, size_t slots);
+
+/* The same for a drive that is there, and stays as it is: neither image_renew nor image_keep may follow. */
+void image_look(struct image *im, const char *path, size_t pages, size_t slots);
+
+/* Writes the stable areas out anew, as they stand in memory: all of them, or the drive is as it was found. From then on they stay. */
+void image_renew(struct image *im);
 
 /* Stores what the last call changed, in the order in which commit, write-out and restart store: records by rising number, then the page. */
 void image_keep(struct image *im);

@@ -1,12 +1,20 @@
 /* A register on a drive, worked by commands on standard input, one a line:
  *
- *   open CASE  file CASE KEY VALUE  remove CASE KEY  find CASE KEY  commit CASE  cancel CASE  write-out PAGE  list
+ *   open CASE  file CASE KEY VALUE  remove CASE KEY  find CASE KEY  commit CASE  cancel CASE  write-out PAGE  list  check
  *
  * Numbers are decimal and chosen by the user, those of cases too. Each command is answered by itself, a colon, 0 and any answer, or the
- * refusal's number; `list` prints a line `slide KEY VALUE` for each slide first. A line that is no command, or opens an open case, prints `?`.
+ * refusal's number. `list` prints a line `slide KEY VALUE` for each slide first. `check` first prints a line for each copy on the drive that
+ * the start found damaged or behind, and what restart answered, in words. A line that is no command, or opens an open case, prints `?`.
  * An answer is printed when everything that it tells is on the drive, so it may be relied on.
  *
- * Usage: host FILE PAGES SLOTS. A new FILE gets so many pages and slots, and one that has fewer grows. */
+ * Usage: host FILE PAGES SLOTS. A new FILE gets so many pages and slots, and one that has fewer grows. A start writes all of it anew, as
+ * FILE.new, and needs the room for that. Each copy that it so repaired is named on standard error.
+ *
+ * Or: host --read-only FILE. Nothing on the drive is changed, no permission to write is needed, and the restart is made in memory. `list` and
+ * `check` are the only commands, and may follow where the restart is refused too. PAGES and SLOTS may be given, to lend more after 17 or 18.
+ *
+ * Status: 0; 1 where the start was refused; 2 where the drive failed, has a place with both copies damaged, or is another program's. */
+#include "damage.h"
 #include "host.h"
 #include <stdio.h>
 #include <stdlib.h>
@@ -106,26 +114,40 @@ static uint32_t print_slides(struct host *h, uint32_t batch)
     uint32_t reason = host_fetch(h, batch, 0);
     if (reason == DONZHIKAR_DONE)
         print_slide(0, donzhikar_value(h->values, 0));
-    if (reason == DONZHIKAR_DONE || reason == DONZHIKAR_ABSENT)
+    if (reason == DONZHIKAR_DONE || reason == DONZHIKAR_ERROR_ABSENT)
         reason = host_next(h, batch, 0);
     while (reason == DONZHIKAR_DONE) {
         uint32_t key = donzhikar_value(h->values, 0);
         print_slide(key, donzhikar_value(h->values, 1));
         reason = host_next(h, batch, key);
     }
-    return reason == DONZHIKAR_ABSENT ? DONZHIKAR_DONE : reason;
+    return reason == DONZHIKAR_ERROR_ABSENT ? DONZHIKAR_DONE : reason;
 }
 
+/* Where restart was refused there is nothing to list, for that reason. */
 static uint32_t list_slides(struct bench *b, const uint32_t *n)
 {
     (void)n;
-    uint32_t reason = host_begin(&b->host);
+    uint32_t reason = b->host.restart == DONZHIKAR_DONE ? host_begin(&b->host) : b->host.restart;
     if (reason != DONZHIKAR_DONE)
         return reason;
     uint32_t batch = donzhikar_value(b->host.values, 0);
     reason = print_slides(&b->host, batch);
     host_abort(&b->host, batch);
     return reason;
+}
+
+/* What the start found and did. */
+static uint32_t check_drive(struct bench *b, const uint32_t *n)
+{
+    (void)n;
+    const struct host *h = &b->host;
+    damage_print(stdout, &h->image);
+    printf("restart: %u, %s", (unsigned)h->restart, donzhikar_text(h->restart));
+    if (h->restart == DONZHIKAR_DONE)
+        printf("; open batches taken back: %u; page changes redone: %u", (unsigned)h->ended, (unsigned)h->redone);
+    printf("\n");
+    return h->restart;
 }
 
 /* ---- lines */
@@ -137,7 +159,7 @@ static const struct command {
 } commands[] = {
     { "open", 1, 0, open_case },     { "file", 3, 0, file_slide },     { "remove", 2, 0, remove_slide },
     { "find", 2, 1, find_slide },    { "commit", 1, 0, commit_case },  { "cancel", 1, 0, cancel_case },
-    { "list", 0, 0, list_slides },   { "write-out", 1, 0, write_out_page },
+    { "list", 0, 0, list_slides },   { "check", 0, 0, check_drive },   { "write-out", 1, 0, write_out_page },
 };
 
 /* Reads one number of digits alone, and moves on behind it. Returns 0 where there is none, or it has more than 32 bits. */
@@ -177,12 +199,23 @@ static void answer(const struct bench *b, const char *line, uint32_t reason, int
     fflush(stdout);
 }
 
+/* Why a line is not obeyed, or NULL. */
+static const char *objection(struct bench *b, const struct command *command, const uint32_t *numbers)
+{
+    if (command == NULL || (command->run == open_case && case_named(b, numbers[0]) != NULL))
+        return "?";
+    if (b->host.only_reads && command->run != list_slides && command->run != check_drive)
+        return "? read-only: list and check are the only commands";
+    return NULL;
+}
+
 static void obey(struct bench *b, const char *line)
 {
     uint32_t numbers[MOST_NUMBERS];
     const struct command *command = read_command(line, numbers);
-    if (command == NULL || (command->run == open_case && case_named(b, numbers[0]) != NULL)) {
-        printf("?\n");
+    const char *why_not = objection(b, command, numbers);
+    if (why_not != NULL) {
+        printf("%s\n", why_not);
         fflush(stdout);
         return;
     }
@@ -207,20 +240,28 @@ static int read_line(char line[LINE])
     return 1;
 }
 
+/* Starts on FILE, with PAGES and SLOTS where they are given. Returns 0 where no command may follow. */
+static int start(struct bench *b, char **words, int count, int only_reads)
+{
+    size_t pages = count == 3 ? strtoul(words[1], NULL, 10) : 0, slots = count == 3 ? strtoul(words[2], NULL, 10) : 0;
+    uint32_t reason = only_reads ? host_look(&b->host, words[0], pages, slots) : host_start(&b->host, words[0], pages, slots);
+    answer(b, "start", reason, 2);
+    return reason == DONZHIKAR_DONE || (only_reads && reason != DONZHIKAR_ERROR_LENGTHS);
+}
+
 int main(int count, char **words)
 {
     static struct bench bench;
     char line[LINE];
-    if (count != 4) {
-        fprintf(stderr, "usage: %s FILE PAGES SLOTS\n", words[0]);
+    int only_reads = count > 1 && strcmp(words[1], "--read-only") == 0, before = 1 + only_reads;
+    if (count - before != 3 && !(only_reads && count - before == 1)) {
+        fprintf(stderr, "usage: %s FILE PAGES SLOTS\n       %s --read-only FILE [PAGES SLOTS]\n", words[0], words[0]);
         return 1;
     }
-    uint32_t reason = host_start(&bench.host, words[1], strtoul(words[2], NULL, 10), strtoul(words[3], NULL, 10));
-    answer(&bench, "start", reason, 2);
-    if (reason != DONZHIKAR_DONE)
+    if (!start(&bench, words + before, count - before, only_reads))
         return 1;
     while (read_line(line))
         obey(&bench, line);
     host_stop(&bench.host);
-    return 0;
+    return bench.host.restart == DONZHIKAR_DONE ? 0 : 1;
 }

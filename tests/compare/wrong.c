@@ -6,7 +6,7 @@
 #include <string.h>
 
 enum { WORK_PAGES, STABLE_PAGES, WORK_LOG, STABLE_LOG, DESK, VALUES, PARTS };
-enum { DESK_BYTES = 136, LARGE = 800 * 128 };
+enum { DESK_BYTES = 136, ROW_BYTES = 16, ROWS = 8, WRITTEN_AT = 128, LARGE = 800 * 128, LARGEST = 896 * 128, MUCH_STACK = 120 * 1024, OFTEN = 9 };
 
 struct part {
     uint8_t *bytes;
@@ -18,7 +18,15 @@ enum deed {
     ANSWERS,     /* returns another number: `with` */
     TURNS,       /* turns a bit of the last byte of part `with` */
     GOES_BEYOND, /* turns a bit of the byte after part `with` */
-    ACCEPTS      /* takes a desk of any length for one of 136 bytes */
+    ACCEPTS,     /* takes a desk of any length for one of 136 bytes */
+    READS_AFTER, /* reads the byte after part `with` */
+    READS_BEFORE,
+    PUTS_BACK,   /* turns a bit of part `with`, and turns it back */
+    CUTS,        /* leaves 14 bits of the second value */
+    /* And what it does before: */
+    DIGS,        /* takes much more stack */
+    SHARES,      /* works on pages of its own, which all calls share */
+    REPEATS      /* makes the call many times */
 };
 
 struct fault {
@@ -27,39 +35,63 @@ struct fault {
     uint32_t when;      /* what it returns when it is right */
     enum deed deed;
     uint32_t with;
-    size_t least_pages; /* only where the pages have so many bytes */
+    /* Only where the pages have so many bytes, the root has this level, so many updates are pending, so many records are written. */
+    size_t least_pages;
+    uint32_t least_level, least_pending, least_written;
+    /* Only where the call has just found room: no slot, or no free page, more than it asks for. */
+    enum { ANY_ROOM, EXACT_SLOTS, EXACT_PAGES } room;
 };
 
+#define ALWAYS .least_pages = 0
+
 static const struct fault faults[] = {
-    {"fetch-gives-another-value", 'F', 0, TURNS, VALUES, 0},
-    {"next-gives-another-value", 'N', 0, TURNS, VALUES, 0},
-    {"begin-leaves-another-desk", 'B', 0, TURNS, DESK, 0},
-    {"insert-writes-another-page", 'I', 0, TURNS, WORK_PAGES, 0},
-    {"insert-refuses-with-18-for-17", 'I', 17, ANSWERS, 18, 0},
-    {"delete-writes-another-record", 'D', 0, TURNS, WORK_LOG, 0},
-    {"commit-stores-another-record", 'C', 0, TURNS, STABLE_LOG, 0},
-    {"abort-goes-beyond-the-pages", 'A', 0, GOES_BEYOND, WORK_PAGES, 0},
-    {"write-out-stores-another-page", 'W', 0, TURNS, STABLE_PAGES, 0},
-    {"restart-counts-another-number", 'R', 0, TURNS, VALUES, 0},
-    {"fetch-writes-a-stable-page", 'F', 16, TURNS, STABLE_PAGES, 0},
-    {"insert-without-batch-answers-11", 'I', 12, ANSWERS, 11, 0},
-    {"ninth-begin-answers-17", 'B', 13, ANSWERS, 17, 0},
-    {"large-insert-writes-another-page", 'I', 0, TURNS, WORK_PAGES, LARGE},
-    {"redo-refuses-with-6-for-5", 'R', 5, ANSWERS, 6, 0},
-    {"layout-refuses-with-4-for-3", 'R', 3, ANSWERS, 4, 0},
-    {"unsound-fetch-answers-16", 'F', 11, ANSWERS, 16, 0},
-    {"unsound-commit-leaves-another-desk", 'C', 11, TURNS, DESK, 0},
-    {"refused-restart-keeps-a-page", 'R', 4, TURNS, WORK_PAGES, 0},
-    {"refused-restart-keeps-a-record", 'R', 4, TURNS, WORK_LOG, 0},
-    {"refused-restart-changes-the-stable-log", 'R', 4, TURNS, STABLE_LOG, 0},
-    {"restart-writes-another-page", 'R', 0, TURNS, WORK_PAGES, 0},
-    {"restart-leaves-another-desk", 'R', 0, TURNS, DESK, 0},
-    {"format-leaves-a-record", 'Z', 0, TURNS, STABLE_LOG, 0},
-    {"wrong-lengths-answer-2", 'W', 1, ANSWERS, 2, 0},
-    {"refused-format-leaves-a-desk", 'Z', 1, TURNS, DESK, 0},
-    {"desk-of-any-length", 'B', 0, ACCEPTS, 0, 0},
-    {"rules-refuse-with-5-for-6", 'R', 6, ANSWERS, 5, 0},
-    {"restart-refuses-with-17-for-18", 'R', 18, ANSWERS, 17, 0},
+    {"fetch-gives-another-value", 'F', 0, TURNS, VALUES, ALWAYS},
+    {"next-gives-another-value", 'N', 0, TURNS, VALUES, ALWAYS},
+    {"begin-leaves-another-desk", 'B', 0, TURNS, DESK, ALWAYS},
+    {"insert-writes-another-page", 'I', 0, TURNS, WORK_PAGES, ALWAYS},
+    {"insert-refuses-with-18-for-17", 'I', 17, ANSWERS, 18, ALWAYS},
+    {"delete-writes-another-record", 'D', 0, TURNS, WORK_LOG, ALWAYS},
+    {"commit-stores-another-record", 'C', 0, TURNS, STABLE_LOG, ALWAYS},
+    {"abort-goes-beyond-the-pages", 'A', 0, GOES_BEYOND, WORK_PAGES, ALWAYS},
+    {"write-out-stores-another-page", 'W', 0, TURNS, STABLE_PAGES, ALWAYS},
+    {"restart-counts-another-number", 'R', 0, TURNS, VALUES, ALWAYS},
+    {"fetch-writes-a-stable-page", 'F', 16, TURNS, STABLE_PAGES, ALWAYS},
+    {"insert-without-batch-answers-11", 'I', 12, ANSWERS, 11, ALWAYS},
+    {"ninth-begin-answers-17", 'B', 13, ANSWERS, 17, ALWAYS},
+    {"large-insert-writes-another-page", 'I', 0, TURNS, WORK_PAGES, .least_pages = LARGE},
+    {"redo-refuses-with-6-for-5", 'R', 5, ANSWERS, 6, ALWAYS},
+    {"layout-refuses-with-4-for-3", 'R', 3, ANSWERS, 4, ALWAYS},
+    {"unsound-fetch-answers-16", 'F', 11, ANSWERS, 16, ALWAYS},
+    {"unsound-commit-leaves-another-desk", 'C', 11, TURNS, DESK, ALWAYS},
+    {"refused-restart-keeps-a-page", 'R', 4, TURNS, WORK_PAGES, ALWAYS},
+    {"refused-restart-keeps-a-record", 'R', 4, TURNS, WORK_LOG, ALWAYS},
+    {"refused-restart-changes-the-stable-log", 'R', 4, TURNS, STABLE_LOG, ALWAYS},
+    {"restart-writes-another-page", 'R', 0, TURNS, WORK_PAGES, ALWAYS},
+    {"restart-leaves-another-desk", 'R', 0, TURNS, DESK, ALWAYS},
+    {"format-leaves-a-record", 'Z', 0, TURNS, STABLE_LOG, ALWAYS},
+    {"wrong-lengths-answer-2", 'W', 1, ANSWERS, 2, ALWAYS},
+    {"refused-format-leaves-a-desk", 'Z', 1, TURNS, DESK, ALWAYS},
+    {"desk-of-any-length", 'B', 0, ACCEPTS, 0, ALWAYS},
+    {"rules-refuse-with-5-for-6", 'R', 6, ANSWERS, 5, ALWAYS},
+    {"restart-refuses-with-17-for-18", 'R', 18, ANSWERS, 17, ALWAYS},
+    {"insert-wrong-at-five-levels", 'I', 0, TURNS, WORK_PAGES, .least_level = 4},
+    {"fetch-wrong-at-six-levels", 'F', 0, TURNS, VALUES, .least_level = 5},
+    {"held-ignored-above-40-pending", 'F', 14, ANSWERS, 16, .least_pending = 41},
+    {"held-ignored-above-64-pending", 'I', 14, ANSWERS, 15, .least_pending = 65},
+    {"begin-wrong-in-the-last-slots", 'B', 0, TURNS, DESK, .least_written = 16380},
+    {"begin-refused-in-exact-room", 'B', 0, ANSWERS, 17, .room = EXACT_SLOTS},
+    {"insert-refused-in-exact-room", 'I', 0, ANSWERS, 17, .room = EXACT_SLOTS},
+    {"delete-refused-in-exact-room", 'D', 0, ANSWERS, 17, .room = EXACT_SLOTS},
+    {"insert-refused-with-exact-pages", 'I', 0, ANSWERS, 18, .room = EXACT_PAGES},
+    {"redo-counted-by-14-bits", 'R', 0, CUTS, 0, ALWAYS},
+    {"fetch-reads-after-the-log", 'F', 0, READS_AFTER, WORK_LOG, ALWAYS},
+    {"restart-reads-before-the-pages", 'R', 0, READS_BEFORE, STABLE_PAGES, ALWAYS},
+    {"begin-reads-after-the-desk", 'B', 0, READS_AFTER, DESK, ALWAYS},
+    {"fetch-writes-a-page-and-puts-it-back", 'F', 0, PUTS_BACK, WORK_PAGES, ALWAYS},
+    {"commit-writes-a-page-and-puts-it-back", 'C', 0, PUTS_BACK, STABLE_PAGES, ALWAYS},
+    {"large-insert-takes-more-stack", 'I', 0, DIGS, 0, .least_pages = LARGE},
+    {"one-buffer-for-all-calls", 'I', 0, SHARES, 0, ALWAYS},
+    {"largest-fetch-is-slow", 'F', 0, REPEATS, 0, .least_pages = LARGEST},
 };
 
 /* The fault that is asked for, or null. */
@@ -73,25 +105,119 @@ static const struct fault *fault(void)
     return found;
 }
 
+static uint32_t number_at(const uint8_t *bytes)
+{
+    return (uint32_t)bytes[0] << 24 | (uint32_t)bytes[1] << 16 | (uint32_t)bytes[2] << 8 | (uint32_t)bytes[3];
+}
+
+static uint32_t pending_in(const struct part *desk)
+{
+    uint32_t pending = 0;
+    for (size_t row = 0; row < ROWS && desk->length == DESK_BYTES; row++)
+        pending += number_at(desk->bytes + row * ROW_BYTES + 12);
+    return pending;
+}
+
+static uint32_t open_in(const struct part *desk)
+{
+    uint32_t open = 0;
+    while (open < ROWS && number_at(desk->bytes + open * ROW_BYTES) != 0)
+        open++;
+    return open;
+}
+
+static uint32_t free_pages(const struct part *pages)
+{
+    uint32_t used = 0;
+    for (size_t bit = 0; bit < 896; bit++)
+        used += pages->bytes[16 + bit / 8] >> (7 - bit % 8) & 1;
+    return (uint32_t)(pages->length / 128) - used;
+}
+
+/* By what the call has left, where an update wrote one record and took no page: 01's formulas hold as equations. */
+static int room_is(const struct fault *f, const struct part parts[PARTS])
+{
+    const struct part *desk = &parts[DESK];
+    uint32_t pending = pending_in(desk), slots = (uint32_t)(parts[WORK_LOG].length / 144);
+    uint32_t before = number_at(desk->bytes + WRITTEN_AT) - 1, reserved = 32 * pending + 2 * open_in(desk);
+    if (f->room == EXACT_SLOTS)
+        return before + (f->letter == 'B' ? 1 : 32) + reserved == slots;
+    return f->room == ANY_ROOM || free_pages(&parts[WORK_PAGES]) == 7 + 7 * pending;
+}
+
+/* Whether the register is one that the fault is about. A page's level is in the third to sixth bit of its first byte; the root is page 1. */
+static int concerns(const struct fault *f, char letter, const struct part parts[PARTS])
+{
+    const struct part *pages = &parts[WORK_PAGES], *desk = &parts[DESK];
+    return f != NULL && f->letter == letter && pages->length >= f->least_pages
+        && (f->least_level == 0 || (uint32_t)(pages->bytes[128] >> 2 & 15) >= f->least_level)
+        && (f->least_pending == 0 || pending_in(desk) >= f->least_pending)
+        && (f->least_written == 0 || number_at(desk->bytes + WRITTEN_AT) >= f->least_written);
+}
+
 static size_t desk_length(char letter, size_t length)
 {
     const struct fault *f = fault();
     return f != NULL && f->deed == ACCEPTS && f->letter == letter && length >= DESK_BYTES ? DESK_BYTES : length;
 }
 
+/* What a fault does before the right call. */
+
+static uint8_t shared[LARGEST];
+
+static int shares(char letter, const struct part *pages)
+{
+    const struct fault *f = fault();
+    return f != NULL && f->deed == SHARES && f->letter == letter && pages->length <= LARGEST;
+}
+
+/* The pages that the right call gets. */
+static uint8_t *pages_for(char letter, const struct part *pages)
+{
+    return shares(letter, pages) ? memcpy(shared, pages->bytes, pages->length) : pages->bytes;
+}
+
+static void dig(void)
+{
+    volatile uint8_t much[MUCH_STACK];
+    for (size_t i = 0; i < sizeof much; i += 1024)
+        much[i] = 0;
+}
+
+static int times_before(char letter, const struct part parts[PARTS])
+{
+    const struct fault *f = fault();
+    if (!concerns(f, letter, parts))
+        return 0;
+    if (f->deed == DIGS)
+        dig();
+    return f->deed == REPEATS ? OFTEN : 0;
+}
+
 /* What the wrong call returns where the right one has returned `reason` and left these parts. */
 static uint32_t spoiled(char letter, uint32_t reason, const struct part parts[PARTS])
 {
     const struct fault *f = fault();
-    if (f == NULL || f->letter != letter || f->when != reason || parts[WORK_PAGES].length < f->least_pages)
+    if (shares(letter, &parts[WORK_PAGES]))
+        memcpy(parts[WORK_PAGES].bytes, shared, parts[WORK_PAGES].length);
+    if (!concerns(f, letter, parts) || f->when != reason || !room_is(f, parts))
         return reason;
     if (f->deed == ANSWERS)
         return f->with;
     const struct part *part = &parts[f->with];
+    volatile uint8_t *bytes = part->bytes;
     if (f->deed == TURNS && part->length > 0)
-        part->bytes[part->length - 1] ^= 1;
+        bytes[part->length - 1] ^= 1;
     if (f->deed == GOES_BEYOND)
-        part->bytes[part->length] ^= 1;
+        bytes[part->length] ^= 1;
+    if (f->deed == READS_AFTER)
+        (void)bytes[part->length];
+    if (f->deed == READS_BEFORE)
+        (void)bytes[-1];
+    for (int i = 0; i < 2 && f->deed == PUTS_BACK; i++)
+        bytes[0] ^= 1;
+    if (f->deed == CUTS)
+        parts[VALUES].bytes[4] = parts[VALUES].bytes[5] = 0, parts[VALUES].bytes[6] &= 0x3F;
     return reason;
 }
 
@@ -101,8 +227,8 @@ static uint32_t spoiled(char letter, uint32_t reason, const struct part parts[PA
         size_t values_length
 
 #define PASSED(letter)                                                                                                                   \
-    work_pages, work_pages_length, stable_pages, stable_pages_length, work_log, work_log_length, stable_log, stable_log_length, desk,     \
-        desk_length(letter, desk_given), values, values_length
+    pages_for(letter, &parts[WORK_PAGES]), work_pages_length, stable_pages, stable_pages_length, work_log, work_log_length, stable_log,   \
+        stable_log_length, desk, desk_length(letter, desk_given), values, values_length
 
 #define WRONG(letter, name, taken, given)                                                                                                \
     uint32_t right_##name(LENT taken);                                                                                                   \
@@ -110,6 +236,8 @@ static uint32_t spoiled(char letter, uint32_t reason, const struct part parts[PA
     {                                                                                                                                    \
         const struct part parts[PARTS] = {{work_pages, work_pages_length}, {stable_pages, stable_pages_length},                          \
             {work_log, work_log_length}, {stable_log, stable_log_length}, {desk, desk_given}, {values, values_length}};                   \
+        for (int times = times_before(letter, parts); times > 0; times--)                                                                \
+            right_##name(PASSED(letter) given);                                                                                          \
         return spoiled(letter, right_##name(PASSED(letter) given), parts);                                                               \
     }
 

@@ -8,12 +8,10 @@
 enum { PLACES = 3, NUMBERS = DRIVE_PLACE_BYTES / 4 };
 
 /* A place is full of one number, so that parts of two stores never look like one. */
-static void store(struct drive *d, uint32_t place, uint32_t number, void (*put)(struct drive *, uint32_t, const uint8_t *))
+static void number_to(uint8_t bytes[DRIVE_PLACE_BYTES], uint32_t number)
 {
-    uint8_t bytes[DRIVE_PLACE_BYTES];
     for (int i = 0; i < NUMBERS; i++)
         memcpy(bytes + 4 * i, &number, 4);
-    put(d, place, bytes);
 }
 
 static void say(const char *what, uint32_t place, uint32_t number)
@@ -22,11 +20,9 @@ static void say(const char *what, uint32_t place, uint32_t number)
     fflush(stdout);
 }
 
-static void show(struct drive *d, uint32_t place)
+static void show(uint32_t place, const uint8_t bytes[DRIVE_PLACE_BYTES])
 {
-    uint8_t bytes[DRIVE_PLACE_BYTES];
     uint32_t first, number;
-    drive_read(d, place, bytes);
     memcpy(&first, bytes, 4);
     for (int i = 1; i < NUMBERS; i++) {
         memcpy(&number, bytes + 4 * i, 4);
@@ -36,25 +32,34 @@ static void show(struct drive *d, uint32_t place)
     say("holds", place, first);
 }
 
+static void start(struct drive *d, const char *path)
+{
+    uint8_t bytes[PLACES][DRIVE_PLACE_BYTES] = { { 0 } };
+    int found = drive_open(d, path);
+    for (uint32_t place = 0; place < PLACES && found; place++)
+        if (drive_read(d, place, bytes[place]) == DRIVE_BOTH_DAMAGED)
+            drive_fail("a place has no whole copy");
+    for (uint32_t place = 0; place < PLACES; place++)
+        drive_fill(d, place, bytes[place]);
+    drive_name(d);
+    for (uint32_t place = 0; place < PLACES; place++)
+        show(place, bytes[place]);
+}
+
 int main(int count, char **words)
 {
     struct drive d;
+    uint8_t bytes[DRIVE_PLACE_BYTES];
     if (count != 5)
         return 1;
     uint32_t drawn = (uint32_t)strtoul(words[2], NULL, 10), first = (uint32_t)strtoul(words[3], NULL, 10);
-    if (!drive_open(&d, words[1])) {
-        drive_new(&d, words[1]);
-        for (uint32_t place = 0; place < PLACES; place++)
-            store(&d, place, 0, drive_fill);
-        drive_name(&d, words[1]);
-    }
-    for (uint32_t place = 0; place < PLACES; place++)
-        show(&d, place);
+    start(&d, words[1]);
     for (uint32_t i = 0; i < (uint32_t)strtoul(words[4], NULL, 10); i++) {
         drawn = drawn * 1664525 + 1013904223;
         uint32_t place = (drawn >> 16) % PLACES;
         say("storing", place, first + i);
-        store(&d, place, first + i, drive_store);
+        number_to(bytes, first + i);
+        drive_store(&d, place, bytes);
         say("stored", place, first + i);
     }
     drive_close(&d);

@@ -4,7 +4,7 @@ import os
 from itertools import product
 from random import Random
 
-from plug.programs import Plug, forget, run
+from plug.programs import forget, plug, run
 
 STORES = 5
 
@@ -33,9 +33,9 @@ class Places:
         return None
 
 
-def further(program, file, side, places, random, plug):
+def further(program, file, side, places, random, settings):
     """One more run. Returns whether it died, and what is wrong, or None."""
-    done = run(program, (file, random.randrange(1 << 30), places.last + 1, STORES), [], side, plug)
+    done = run(program, (file, random.randrange(1 << 30), places.last + 1, STORES), [], side, settings)
     wrongs = [wrong for wrong in map(places.take, done.lines) if wrong]
     return done.died, done.error or (wrongs[0] if wrongs else None)
 
@@ -48,10 +48,10 @@ def placing(program, folder, seeds=2):
         while died:
             forget(file, side)
             random, places = Random(f'{how} {seed} {after}'), Places()
-            died, wrong = further(program, file, side, places, random, Plug(after, how, random.randrange(1 << 30)))
+            died, wrong = further(program, file, side, places, random, plug(after, how, random.randrange(1 << 30)))
             for _ in range(random.randrange(5)):
-                plug = Plug(random.randint(1, 30), random.choice(('kill', 'power')), random.randrange(1 << 30))
-                wrong = wrong or further(program, file, side, places, random, plug)[1]
+                again = plug(random.randint(1, 60), random.choice(('kill', 'power')), random.randrange(1 << 30))
+                wrong = wrong or further(program, file, side, places, random, again)[1]
             wrong = wrong or further(program, file, side, places, random, None)[1]
             if died or wrong:
                 yield f'{how} after event {after}', wrong

@@ -1,9 +1,14 @@
 """The programs under trial: compiled, run on a register's file, and their answers read."""
 import os
+import re
 import subprocess
 
 ROOT = os.path.dirname(os.path.dirname(os.path.dirname(os.path.abspath(__file__))))
-WRAPPED = ('pwrite', 'fdatasync', 'fsync', 'rename')
+WRAPPED = ('open', 'close', 'fcntl', 'fstat', 'lstat', 'pread', 'pwrite', 'fdatasync', 'fsync', 'renameat2', 'unlink')
+SIDES = ('pieces', 'was', 'was.new', 'names', 'counts', 'steps')
+KINDS = ('flush', 'write', 'read', 'name', 'open')
+REPAIRED = re.compile(r'drive: .+ \(place \d+\): the (first|second) copy was (damaged|behind) and is repaired from the (first|second)')
+GAVE_UP = 2  # the host's status where its drive failed, or is another's
 
 
 def library():
@@ -21,11 +26,14 @@ def compiled(to, sources, link, plug):
     return to
 
 
-class Plug:
+def plug(after, how, seed):
     """After which event the plug is pulled, how (`kill` or `power`), and the seed for what a power failure loses."""
+    return {'PLUG_AFTER': str(after), 'PLUG_HOW': how, 'PLUG_SEED': str(seed)}
 
-    def __init__(self, after, how, seed):
-        self.settings = {'PLUG_AFTER': str(after), 'PLUG_HOW': how, 'PLUG_SEED': str(seed)}
+
+def fault(kind, number, cache, seed):
+    """Which call fails, by its kind and number, and whether the system then keeps or drops what was to be flushed."""
+    return {'PLUG_FAULT': kind, 'PLUG_NUMBER': str(number), 'PLUG_CACHE': cache, 'PLUG_SEED': str(seed)}
 
 
 class Run:
@@ -34,7 +42,10 @@ class Run:
     def __init__(self, output, error, status):
         self.lines = output.split('\n')[:-1]  # a line without its end was not printed whole
         self.died = status == -9
-        self.error = error.strip() or (f'the program ended with status {status}' if status not in (0, 1, -9) else '')
+        self.gave_up = status == GAVE_UP
+        self.repairs = [line for line in error.splitlines() if REPAIRED.fullmatch(line)]  # no fault of the host's
+        says = '\n'.join(line for line in error.splitlines() if line not in self.repairs)
+        self.error = says.strip() or (f'the program ended with status {status}' if status not in (0, 1, -9) else '')
 
     def answers(self, commands):
         """The commands that were answered, each with its answer."""
@@ -57,16 +68,21 @@ class Run:
         return {int(key): int(value) for key, value in pairs}
 
 
-def run(program, words, commands, side, plug=None):
-    """Runs a program whose plug can be pulled, to its end or to its death."""
-    settings = {'PLUG_SIDE': side, **(plug.settings if plug else {})}
+def run(program, words, commands, side, settings=None):
+    """Runs a program over the simulated drive, to its end or to its death."""
+    settings = {'PLUG_FILE': words[0], 'PLUG_SIDE': side, **(settings or {})}
     text = ''.join(command + '\n' for command in commands)
     done = subprocess.run([program, *map(str, words)], input=text, capture_output=True, text=True, env=settings, timeout=60)
     return Run(done.stdout, done.stderr, done.returncode)
 
 
+def counts(side):
+    """How many events, and how many calls of each kind, the last run to its end had."""
+    return dict(zip(('event', *KINDS), map(int, open(side + '.counts').read().split())))
+
+
 def forget(file, side):
     """Removes a register's file, and the side files of trial.c."""
-    for name in (file, file + '.new', side + '.pieces', side + '.name'):
+    for name in (file, file + '.new', *(f'{side}.{which}' for which in SIDES)):
         if os.path.exists(name):
             os.remove(name)

@@ -4,11 +4,13 @@ import os
 from random import Random
 
 from plug.book import CASE, Book
-from plug.programs import Plug, forget, run
+from plug.programs import counts, forget, plug, run
 from plug.work import Work
 
-PAGES, SLOTS = 72, 512
+PAGES, SLOTS = 72, 448
 BLOCK = 4096
+HOLE = bytes(BLOCK)
+PIECES = 6  # for each place: two blocks of three pieces
 
 
 class Register:
@@ -23,12 +25,16 @@ class Register:
     def forget(self):
         forget(self.file, self.side)
 
-    def run(self, commands, plug=None):
-        return run(self.host, (self.file, self.pages, self.slots), commands, self.side, plug)
+    def run(self, commands, settings=None):
+        return run(self.host, (self.file, self.pages, self.slots), commands, self.side, settings)
 
-    def events(self):
-        """How many events the last run to its end had."""
-        return int(open(self.side + '.events').read())
+    def counts(self):
+        """How many events, and calls of each kind, the last run to its end had."""
+        return counts(self.side)
+
+    def filled(self):
+        """After how many events of a start its new file is filled: the place of the counts, the pages and the slots."""
+        return PIECES * (1 + self.pages + self.slots)
 
     def image(self):
         """The file's runs of blocks that are not zeros, each with its place. The rest is a hole."""
@@ -36,9 +42,9 @@ class Register:
         with open(self.file, 'rb') as file:
             for number, block in enumerate(iter(lambda: file.read(BLOCK), b'')):
                 place = number * BLOCK
-                if any(block) and runs and runs[-1][0] + len(runs[-1][1]) == place:
+                if block != HOLE and runs and runs[-1][0] + len(runs[-1][1]) == place:
                     runs[-1][1].extend(block)
-                elif any(block):
+                elif block != HOLE:
                     runs.append((place, bytearray(block)))
         return runs
 
@@ -64,23 +70,29 @@ def judged(book, run):
 def recovered(register, book, random):
     """Up to two more deaths, while the register comes back; then it must be there. Returns what is wrong, or None."""
     for _ in range(random.randrange(3)):
-        run = register.run(['list'], Plug(random.randint(1, 40), random.choice(('kill', 'power')), random.randrange(1 << 30)))
+        after = random.choice((random.randint(1, register.filled()), register.filled() + random.randint(1, 30)))
+        run = register.run(['list'], plug(after, random.choice(('kill', 'power')), random.randrange(1 << 30)))
         wrong = None if run.died else judged(book, run)
         if wrong:
             return wrong
     return judged(book, register.run(['list']))
 
 
-def pulled(register, book, commands, plug, random):
-    """The plug is pulled during these commands. Returns whether it came to that, and what is wrong afterwards, or None."""
-    book = copy.deepcopy(book)
-    run = register.run(commands, plug)
+def noted(book, run, commands):
+    """Takes what a run answered, and that it ended there."""
     answers = run.answers(commands)
     for command, answer in answers:
         book.take(command, answer)
+    book.cut(commands[len(answers)] if len(answers) < len(commands) else None)
+
+
+def pulled(register, book, commands, settings, random):
+    """The plug is pulled during these commands. Returns whether it came to that, and what is wrong afterwards, or None."""
+    book = copy.deepcopy(book)
+    run = register.run(commands, settings)
+    noted(book, run, commands)
     if not run.died:
         return False, run.error or None
-    book.cut(commands[len(answers)] if len(answers) < len(commands) else None)
     return True, recovered(register, book, random)
 
 
@@ -99,25 +111,31 @@ def worked(register, seed):
     return book, register.image(), [*work.each_page(), *work.commands(20, removing=0.5)]
 
 
-def each_event(register, book, image, commands, first=1, stride=1, seeds=1):
-    """The plug pulled after one event of a run and then, from the same start, after another, up to the run's end, by kill and by power
-    failure. Gives for each what is wrong, or None. Without an image the register is made anew each time."""
+def each_event(register, book, image, commands, first=1, last=None, stride=1, seeds=1):
+    """The plug pulled after one event of a run and then, from the same start, after another, up to the last or the run's end, by kill and
+    by power failure. Gives for each what is wrong, or None. Without an image the register is made anew each time."""
     for how, seed in (('kill', 0), *(('power', seed) for seed in range(seeds))):
         after, died = first, True
-        while died:
+        while died and (last is None or after <= last):
             random = Random(f'{how} {seed} {after}')
             register.put(image) if image else register.forget()
-            died, wrong = pulled(register, book, commands, Plug(after, how, random.randrange(1 << 30)), random)
+            died, wrong = pulled(register, book, commands, plug(after, how, random.randrange(1 << 30)), random)
             if died or wrong:
                 yield f'{how} after event {after}', wrong
             after += stride
+
+
+def from_the_start(register, book, image, commands, stride, seeds=1):
+    """Here and there while the new file is filled, and after each event from then on."""
+    yield from each_event(register, book, image, commands, last=register.filled() - 20, stride=stride)
+    yield from each_event(register, book, image, commands, first=register.filled() - 10, seeds=seeds)
 
 
 def working(host, folder):
     """During work: several cases open, commits, write-outs."""
     register = Register(host, folder)
     book, image, commands = worked(register, seed=1)
-    yield from each_event(register, book, image, commands)
+    yield from from_the_start(register, book, image, commands, stride=503)
 
 
 def growing(host, folder):
@@ -125,17 +143,13 @@ def growing(host, folder):
     register = Register(host, folder)
     book, image, _ = worked(register, seed=2)
     register.slots += 4
-    yield from each_event(register, book, image, ['list'], seeds=3)
+    yield from from_the_start(register, book, image, ['list'], stride=331, seeds=3)
 
 
 def making(host, folder):
-    """While a new register is made and its first case filed: here and there while it is filled, and at each of the last events."""
+    """While a new register is made and its first case filed."""
     register = Register(host, folder, pages=16, slots=128)
-    commands = ['open 1', f'file 1 5 {CASE}', 'commit 1']
-    register.run(commands)
-    total = register.events()
-    yield from each_event(register, Book(), None, commands, stride=29)
-    yield from each_event(register, Book(), None, commands, first=total - 60)
+    yield from from_the_start(register, Book(), None, ['open 1', f'file 1 5 {CASE}', 'commit 1'], stride=37, seeds=2)
 
 
 TRIALS = {'working': working, 'growing': growing, 'making': making}

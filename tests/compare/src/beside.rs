@@ -22,18 +22,51 @@ impl Beside {
     /// Make a call on these areas and this desk, by both. Answers what the model gives, which is what the library gave.
     pub fn try_on(&mut self, areas: &Areas, desk: &Desk, made: Call) -> Result<Outcome, Difference> {
         self.loan.set(areas, desk);
-        self.go_on(areas, desk, made)
+        self.compare(areas, desk, made)
     }
 
     /// The same where the areas and the desk are those that are lent already: the library works on what it left.
     pub fn go_on(&mut self, areas: &Areas, desk: &Desk, made: Call) -> Result<Outcome, Difference> {
+        self.loan.turn();
+        self.compare(areas, desk, made)
+    }
+
+    fn compare(&mut self, areas: &Areas, desk: &Desk, made: Call) -> Result<Outcome, Difference> {
         let outcome = call(areas, desk, made);
-        self.loan.clear_values();
-        let reason = library::call(&mut self.loan, made);
-        self.tally.count(made, reason);
-        self.same_as(reason, &outcome)?;
-        rules::check(made, reason, areas, desk, &self.loan)?;
+        self.check(areas, desk, made, &outcome)?;
         Ok(outcome)
+    }
+
+    /// The library's call alone, on what is lent, where the model's outcome is known.
+    pub fn check(&mut self, areas: &Areas, desk: &Desk, made: Call, outcome: &Outcome) -> Result<(), Difference> {
+        let reason = self.make(made);
+        self.judge(areas, desk, made, reason, outcome)
+    }
+
+    /// The library's call, on what is lent; answers what it returns.
+    pub fn make(&mut self, made: Call) -> u32 {
+        self.loan.clear_values();
+        let (reason, stack) = library::call(&mut self.loan, made);
+        self.tally.count(made, reason, stack);
+        reason
+    }
+
+    /// Whether the library returned and left what the model's outcome says.
+    pub fn judge(
+        &self,
+        areas: &Areas,
+        desk: &Desk,
+        made: Call,
+        reason: u32,
+        outcome: &Outcome,
+    ) -> Result<(), Difference> {
+        self.same_as(reason, outcome)?;
+        rules::check(made, reason, areas, desk, &self.loan)?;
+        if made == Call::Restart {
+            same_number("restart's answer", reason, inspect::why(areas).0)
+                .map_err(|difference| difference.at("inspect"))?;
+        }
+        Ok(())
     }
 
     fn same_as(&self, reason: u32, outcome: &Outcome) -> Result<(), Difference> {

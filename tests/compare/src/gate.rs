@@ -2,6 +2,8 @@
 
 use crate::damage;
 use crate::difference::Difference;
+use crate::edges;
+use crate::machine;
 use crate::tally::Tally;
 use crate::traces::{compare_run, Seen};
 use reference::bench::Shape;
@@ -17,16 +19,17 @@ struct Runs {
     calls: usize,
 }
 
-const RUNS: [Runs; 4] = [
+const RUNS: [Runs; 5] = [
     Runs { what: "plain runs, cut after every store", shape: Shape::Plain, seeds: 1..21, calls: 1500 },
     Runs { what: "runs with damage in between", shape: Shape::Damaged, seeds: 1..9, calls: 1500 },
     Runs { what: "runs with eight batches open", shape: Shape::Crowded, seeds: 1..7, calls: 1500 },
     Runs { what: "runs at the largest size", shape: Shape::Largest, seeds: 1..4, calls: 150 },
+    Runs { what: "runs where the room just suffices", shape: Shape::Edge, seeds: 1..31, calls: 600 },
 ];
 
 type Try = (&'static str, fn() -> damage::Tried);
 
-const TRIES: [Try; 19] = [
+const TRIES: [Try; 26] = [
     ("every bit of a stored image turned", damage::bits_of_the_image),
     ("bits of all areas turned, for the other calls", damage::bits_for_other_calls),
     ("every bit of the desk turned", damage::bits_of_the_desk),
@@ -46,6 +49,13 @@ const TRIES: [Try; 19] = [
     ("every bit around each page change turned", damage::bits_around_changes),
     ("each page change forged", damage::forged_around_changes),
     ("registers written without the calls' care", damage::careless_registers),
+    ("a tree of five levels", edges::risen_tree),
+    ("trees of one to six levels", edges::built_trees),
+    ("the most updates pending", edges::most_pending),
+    ("exact room in the log", edges::exact_slots),
+    ("exact room in the pages", edges::exact_pages),
+    ("the largest redo", edges::largest_redo),
+    ("two registers in two threads", edges::two_threads),
 ];
 
 struct Gate<'a> {
@@ -66,6 +76,7 @@ pub fn gate(words: &str) -> bool {
         gate.check(what, |_| tried().map(|tally| (format!("{} calls", tally.calls()), tally)));
     }
     gate.check("every answer on the list is met", Gate::every_answer_was_met);
+    println!("deepest stack of each call, in bytes: {}", gate.tally.deepest());
     println!("{} passed, {} failed", gate.passed, gate.failed);
     gate.passed > 0 && gate.failed == 0
 }
@@ -86,6 +97,7 @@ impl Gate<'_> {
         if !what.contains(self.words) {
             return;
         }
+        machine::doing(what);
         match check(self) {
             Ok((seen, tally)) => {
                 println!("ok: {what}: {seen}");

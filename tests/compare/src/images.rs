@@ -69,7 +69,7 @@ impl Images {
     /// The leaves that the library left hold the book's slides, keys and values.
     fn leaves_are(&self, book: &Book) -> Result<(), Difference> {
         let slides = Pages::read(&self.beside.loan.areas[0]).and_then(|pages| slides_of(&pages));
-        let Some(slides) = slides else {
+        let Ok(slides) = slides else {
             return Err(Difference::new("a finished restart leaves no tree, by the library and the model"));
         };
         if slides.iter().map(|slide| (&slide.key, &slide.value)).eq(&book.slides) {

@@ -1,39 +1,68 @@
-//! Memory that is lent to the library: between guards that no call may touch, and at any address, as the header asks for
-//! no alignment.
+//! Memory that is lent to the library. It ends where a page without access begins, or begins where one ends, by turns, so
+//! that a byte read beyond either end is seen; and at the third turn it stands at an odd address between bytes that no
+//! call may touch, as the header asks for no alignment.
 
-use std::ops::{Deref, DerefMut};
+use crate::machine::Memory;
+use std::ops::{Deref, DerefMut, Range};
 
 const GUARD_BYTES: usize = 64;
 const GUARD: u8 = 0x5C;
 
 pub struct Lent {
-    memory: Vec<u8>,
-    /// How far the lent bytes start beyond the first guard.
+    memory: Memory,
+    /// How far from an even address the third turn is.
     skew: usize,
+    turn: usize,
+    from: usize,
     length: usize,
 }
 
 impl Lent {
-    pub fn new(skew: usize) -> Lent {
-        let mut lent = Lent { memory: Vec::new(), skew, length: 0 };
+    /// Each part begins with another turn, and has another skew.
+    pub fn new(number: usize) -> Lent {
+        let mut lent = Lent { memory: Memory::new(1), skew: 7 * number + 1, turn: number, from: 0, length: 0 };
         lent.set(&[]);
         lent
     }
 
-    /// Lend these bytes.
+    /// Lend these bytes, at the next turn's place.
     pub fn set(&mut self, bytes: &[u8]) {
-        if self.memory.is_empty() || self.length != bytes.len() {
-            self.length = bytes.len();
-            self.memory.clear();
-            self.memory.resize(GUARD_BYTES + self.skew + bytes.len() + GUARD_BYTES, GUARD);
+        let room = bytes.len() + 2 * GUARD_BYTES + self.skew;
+        if room > self.memory.len() {
+            self.memory = Memory::new(room);
+        }
+        self.turn = (self.turn + 1) % 3;
+        self.from = [self.memory.len() - bytes.len(), 0, GUARD_BYTES + self.skew][self.turn];
+        self.length = bytes.len();
+        for guard in self.guards() {
+            self.memory.bytes_mut()[guard].fill(GUARD);
         }
         self.copy_from_slice(bytes);
     }
 
+    /// Lend the same bytes at the next turn's place.
+    pub fn turn(&mut self) {
+        let bytes = self.to_vec();
+        self.set(&bytes);
+    }
+
+    /// The next call is held up where it touches this byte's page.
+    pub fn hold_at(&mut self, place: usize) {
+        self.memory.hold_at(self.from + place);
+    }
+
+    pub fn pointer(&mut self, read_only: bool) -> *mut u8 {
+        self.memory.pointer(self.from, read_only)
+    }
+
+    /// The bytes before and after, as far as there are some.
+    fn guards(&self) -> [Range<usize>; 2] {
+        let to = self.from + self.length;
+        [self.from.saturating_sub(GUARD_BYTES)..self.from, to..(to + GUARD_BYTES).min(self.memory.len())]
+    }
+
     pub fn guards_hold(&self) -> bool {
-        let from = GUARD_BYTES + self.skew;
-        let guards = self.memory[..from].iter().chain(&self.memory[from + self.length..]);
-        guards.fold(0, |any, byte| any | (byte ^ GUARD)) == 0
+        self.guards().into_iter().all(|guard| self.memory.bytes()[guard].iter().all(|byte| *byte == GUARD))
     }
 }
 
@@ -41,12 +70,13 @@ impl Deref for Lent {
     type Target = [u8];
 
     fn deref(&self) -> &[u8] {
-        &self.memory[GUARD_BYTES + self.skew..][..self.length]
+        &self.memory.bytes()[self.from..][..self.length]
     }
 }
 
 impl DerefMut for Lent {
     fn deref_mut(&mut self) -> &mut [u8] {
-        &mut self.memory[GUARD_BYTES + self.skew..][..self.length]
+        let (from, length) = (self.from, self.length);
+        &mut self.memory.bytes_mut()[from..][..length]
     }
 }

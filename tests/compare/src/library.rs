@@ -1,10 +1,22 @@
-//! The library's ten functions, as include/donzhikar.h declares them. All that is unsafe stands in this file.
+//! The library's ten functions, as include/donzhikar.h declares them.
 
 use crate::loan::Loan;
 use reference::calls::Call;
 
-/// The first twelve arguments are the same for all: the six things lent, each a pointer and a length. Where the header
-/// says const, a comparison afterwards sees whether the call wrote.
+/// Which of the four areas the header says are const for a call: they are lent where they can only be read.
+fn read_only(made: Call) -> [bool; 4] {
+    match made {
+        Call::Format => [false, false, false, false],
+        Call::Begin => [true, true, false, true],
+        Call::Fetch { .. } | Call::Next { .. } => [true, true, true, true],
+        Call::Insert { .. } | Call::Delete { .. } | Call::Abort { .. } => [false, true, false, true],
+        Call::Commit { .. } => [true, true, false, false],
+        Call::WriteOut { .. } => [true, false, true, false],
+        Call::Restart => [false, true, false, false],
+    }
+}
+
+/// The first twelve arguments are the same for all: the six things lent, each a pointer and a length.
 macro_rules! functions {
     ($($name:ident($($number:ident),*);)*) => {
         extern "C" {
@@ -31,24 +43,28 @@ functions! {
     donzhikar_restart();
 }
 
-/// Make a call on what is lent; answers what the function returns.
-pub fn call(loan: &mut Loan, made: Call) -> u32 {
-    let Loan { areas: [work_pages, stable_pages, work_log, stable_log], desk, values } = loan;
+/// Make a call on what is lent, on a stack of 64 KiB; answers what the function returns, and how much stack it took.
+pub fn call(loan: &mut Loan, made: Call) -> (u32, usize) {
+    let Loan { areas, desk, values, stack } = loan;
+    let lengths = areas.each_ref().map(|area| area.len());
+    let mut consts = read_only(made).into_iter();
+    let areas = areas.each_mut().map(|area| area.pointer(consts.next() == Some(true)));
+    let (desk, desk_length) = (desk.pointer(false), desk.len());
+    let (values, values_length) = (values.pointer(false), values.len());
     macro_rules! make {
         ($name:ident $(, $number:expr)*) => {
             // SAFETY: six parts of memory that do not overlap, each with its length, and nothing else uses them
-            // meanwhile. A lent part is never null: it stands between guards also where it is empty.
+            // meanwhile. A lent part is never null, also where it is empty.
             unsafe {
                 $name(
-                    work_pages.as_mut_ptr(), work_pages.len(), stable_pages.as_mut_ptr(), stable_pages.len(),
-                    work_log.as_mut_ptr(), work_log.len(), stable_log.as_mut_ptr(), stable_log.len(),
-                    desk.as_mut_ptr(), desk.len(), values.as_mut_ptr(), values.len(),
+                    areas[0], lengths[0], areas[1], lengths[1], areas[2], lengths[2], areas[3], lengths[3],
+                    desk, desk_length, values, values_length,
                     $($number),*
                 )
             }
         };
     }
-    match made {
+    stack.run(|| match made {
         Call::Format => make!(donzhikar_format),
         Call::Begin => make!(donzhikar_begin),
         Call::Fetch { batch, key } => make!(donzhikar_fetch, batch, key),
@@ -59,5 +75,5 @@ pub fn call(loan: &mut Loan, made: Call) -> u32 {
         Call::Abort { batch } => make!(donzhikar_abort, batch),
         Call::WriteOut { page } => make!(donzhikar_write_out, page),
         Call::Restart => make!(donzhikar_restart),
-    }
+    })
 }

@@ -1,6 +1,7 @@
 //! All that a caller lends to a call: the four areas, the desk and room for the answer's two values.
 
 use crate::lent::Lent;
+use crate::machine::Stack;
 use reference::layout::{Areas, Desk};
 use std::array::from_fn;
 
@@ -14,12 +15,14 @@ pub struct Loan {
     pub areas: [Lent; 4],
     pub desk: Lent,
     pub values: Lent,
+    /// What a call runs on.
+    pub stack: Stack,
 }
 
 impl Loan {
-    /// Each part starts at another address: seven is no power of two, and so is no sum of a few of it.
     pub fn new() -> Loan {
-        let mut loan = Loan { areas: from_fn(|place| Lent::new(7 * place)), desk: Lent::new(3), values: Lent::new(5) };
+        let (areas, desk, values) = (from_fn(Lent::new), Lent::new(4), Lent::new(5));
+        let mut loan = Loan { areas, desk, values, stack: Stack::new() };
         loan.clear_values();
         loan
     }
@@ -29,6 +32,11 @@ impl Loan {
             lent.set(bytes);
         }
         self.desk.set(&desk.bytes());
+    }
+
+    /// The same areas and desk, at other places.
+    pub fn turn(&mut self) {
+        self.areas.iter_mut().chain([&mut self.desk]).for_each(Lent::turn);
     }
 
     pub fn clear_values(&mut self) {

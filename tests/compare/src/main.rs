@@ -4,11 +4,13 @@
 mod beside;
 mod damage;
 mod difference;
+mod edges;
 mod gate;
 mod images;
 mod lent;
 mod library;
 mod loan;
+mod machine;
 mod rules;
 mod tally;
 mod traces;
@@ -17,7 +19,8 @@ use reference::bench::Shape;
 use std::process::ExitCode;
 use traces::compare_run;
 
-const USAGE: &str = "usage: compare gate | try WORDS | run plain|damaged|crowded|largest SEED CALLS | long SEED CALLS";
+const USAGE: &str =
+    "usage: compare gate | try WORDS | run plain|damaged|crowded|largest|edge SEED CALLS | long SEED CALLS";
 
 fn main() -> ExitCode {
     let arguments: Vec<String> = std::env::args().skip(1).collect();

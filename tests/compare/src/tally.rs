@@ -9,14 +9,29 @@ use std::collections::BTreeMap;
 pub struct Tally {
     /// By the call's letter and what it returned.
     answers: BTreeMap<(char, u32), usize>,
+    /// The most bytes of stack that a call took, by its letter.
+    stacks: BTreeMap<char, usize>,
 }
 
 /// No register that the calls have built gives it, and no sound one.
 const NEVER_MET: (char, u32) = ('A', 19);
 
 impl Tally {
-    pub fn count(&mut self, made: Call, reason: u32) {
-        *self.answers.entry((letter_of(&made), reason)).or_default() += 1;
+    pub fn count(&mut self, made: Call, reason: u32, stack: usize) {
+        let letter = letter_of(&made);
+        *self.answers.entry((letter, reason)).or_default() += 1;
+        self.deepen(letter, stack);
+    }
+
+    fn deepen(&mut self, letter: char, stack: usize) {
+        let deepest = self.stacks.entry(letter).or_default();
+        *deepest = stack.max(*deepest);
+    }
+
+    /// The deepest stack of each call, in words.
+    pub fn deepest(&self) -> String {
+        let stacks: Vec<String> = self.stacks.iter().map(|(letter, bytes)| format!("{letter} {bytes}")).collect();
+        stacks.join(", ")
     }
 
     pub fn calls(&self) -> usize {
@@ -26,6 +41,9 @@ impl Tally {
     pub fn add(&mut self, other: &Tally) {
         for (answer, count) in &other.answers {
             *self.answers.entry(*answer).or_default() += count;
+        }
+        for (letter, stack) in &other.stacks {
+            self.deepen(*letter, *stack);
         }
     }
 

@@ -66,8 +66,8 @@ pub fn lengths_of_desk_and_values() -> Tried {
 /// The call answers 1 and leaves every byte. The model has no such lengths: its desk is a value, and so is its answer.
 fn changes_nothing(beside: &mut Beside, made: Call) -> Result<(), Difference> {
     let before = everything(&beside.loan);
-    let reason = library::call(&mut beside.loan, made);
-    beside.tally.count(made, reason);
+    let (reason, stack) = library::call(&mut beside.loan, made);
+    beside.tally.count(made, reason, stack);
     if reason != 1 {
         return Err(Difference::new(format!("{reason} by the library, and not 1")));
     }

@@ -1,0 +1,16 @@
+//! The edges: the deepest trees, the most pending updates, exact room and one place short of it, the largest counts, first
+//! and last keys, pages of 4 and 14 entries, and two registers at once.
+
+mod calls;
+mod deep;
+mod pending;
+mod rooms;
+mod threads;
+mod tree;
+mod written;
+
+pub use deep::{built_trees, risen_tree};
+pub use pending::most_pending;
+pub use rooms::{exact_pages, exact_slots};
+pub use threads::two_threads;
+pub use written::largest_redo;
