@@ -28,7 +28,7 @@ static int update(struct scene *scene, uint32_t batch)
     struct call in_call = { 'I', { batch, key_of(scene->newest), scene->newest } };
     struct call out_call = { 'D', { batch, key_of(scene->oldest), 0 } };
     uint32_t reason = make(&scene->in, out ? out_call : in_call);
-    if (reason == DONZHIKAR_SLOTS_SHORT || reason == DONZHIKAR_PAGES_SHORT)
+    if (reason == DONZHIKAR_ERROR_SLOTS_SHORT || reason == DONZHIKAR_ERROR_PAGES_SHORT)
         return 0;
     if (reason != 0) {
         fprintf(stderr, "filling is refused at %u records: %u\n", records(scene), reason);

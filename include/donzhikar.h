@@ -4,7 +4,17 @@
  * the slides of one case: what it inserts and deletes stays once it is committed, and is taken back if it is aborted, or if the power
  * fails before its commit is stored. After a power failure one call, donzhikar_restart, brings the register back.
  *
- * Link with the library that `rt staticlib capi` makes, target/staticlib/libcapi.a. It needs no other library but the C library.
+ * Link with the library that `rt staticlib donzhikar` makes, target/staticlib/libdonzhikar.a; `./install PREFIX` puts it, as libdonzhikar.a, this
+ * header and a pkg-config file below PREFIX, and then `cc program.c $(pkg-config --cflags --libs donzhikar)` is all. It needs no other
+ * library but the C library.
+ *
+ * PLATFORMS. This header is C99 and later, and C++11 and later. Nothing is asked of alignment: every area may stand at any address. All
+ * numbers in the areas are bytes, most significant first, so an image that one machine wrote is read by any other. The library is made
+ * for the machine that makes it; x86-64 Linux is what is tried.
+ *
+ * IN A HURRY: fill in a struct donzhikar and call the functions whose names end in _in, which stand at the end. They are the ten functions
+ * with one leading argument in place of twelve. There too: what is left (donzhikar_slots_left, donzhikar_pages_left), what a refusal
+ * means in words (donzhikar_text), and the loops that everyone writes (donzhikar_list_in, donzhikar_file_in, donzhikar_come_back_in).
  *
  *
  * WHAT THE CALLER LENDS
@@ -51,8 +61,8 @@
  *       more than eight batches are open, a full slot follows an empty one, or a page was changed by a record that is not there. Restart.
  *    5  A change that is to be redone meets a page that it does not start from. Restart.
  *    6  The pages, once redone, break the rules of the tree, or do not agree with the open batches' changes. Restart.
- *       3 to 6: both working areas become zeros, the desk becomes empty, the stable areas stay as they were. Either the stable areas were
- *       damaged, or a power failure cut a format: format again.
+ *       3 to 6: both working areas become zeros, the desk becomes empty, the stable areas stay as they were. If a power failure cut a
+ *       format, format again. Otherwise the stable areas were damaged: keep them as they are; docs/SERVICE.md says what can be brought back.
  *   11  The working areas or the desk are not sound: not what calls leave. Every call but format and restart. Nothing changes.
  *       After a power failure this is the answer of every call until restart has run.
  *   12  There is no such open batch. Fetch, next, insert, delete, commit, abort. Nothing changes.
@@ -71,6 +81,26 @@
  * most the number of slots; insert and delete need u + 32 + 32(p + 1) + 2b at most the number of slots, else 17, and 7 + 7(p + 1) free
  * pages, else 18. Slots are never given back: when the log is full, the slides have to be read out and filed in a newly formatted register.
  * The caller may lend longer areas (the added part all zero, working and stable alike) after any call, and before a restart.
+ *
+ *
+ * HOW MUCH FITS
+ *
+ * Reserves are kept for undoing what is not committed, so far less may be uncommitted at a time than a register holds in all. Slides are
+ * filed by rising keys here; tests/c/capacity.c measures the table, and a test holds it to this text. "full" counts the slides that are in
+ * when the first begin or insert is refused.
+ *
+ *   pages x slots     uncommitted at a time    full, cases of 1    full, cases of 10
+ *      16 x 64                           0                   0                    0
+ *      16 x 128                          1                  15                    0
+ *      64 x 160                          3                  30                    0
+ *     256 x 1024                        29                 290                  440
+ *     896 x 16384                      124                4900                 4920
+ *
+ * With 64 slots a register takes no insert at all: 67 are the fewest for one. A case larger than what may be uncommitted cannot be filed as
+ * one: some 124 slides are the most, and fewer in a register that is filled. Reading needs a batch too, and a batch costs slots: its begin,
+ * and its commit or its abort mark and end. A program that reads often keeps one reading batch open, or ends it by abort, which stores
+ * nothing. Read all slides out, and file them in a newly formatted register, at the first 17 that no commit cures: a begin then still
+ * passes. A 17 of restart at 16,384 slots is an end: no longer areas can be lent.
  *
  *
  * WHAT THE HOST MUST GUARANTEE ABOUT STORES
@@ -102,41 +132,65 @@
  * judges whether the areas are sound, which reads all of both logs and all working pages.
  *
  *
- * AN EXAMPLE: files a slide in a register of 16 pages and 128 slots, loses the power, and finds the slide again.
+ * COMING BACK
+ *
+ * After a power failure, or at every start: bring the stable areas into memory, and restart. 0: go on. 17 or 18: lend longer areas, the
+ * added part zero, and restart again. 3 to 6: stop, keep the stable areas as they are, and see docs/SERVICE.md. After 0 no batch is open,
+ * whatever was: the cases that had not been committed are filed again from their beginning.
+ *
+ *
+ * AN EXAMPLE: files two cases of a slide each in a register of 16 pages and 128 slots, loses the power, comes back and lists the slides.
  *
  *   #include "donzhikar.h"
  *   #include <stdio.h>
  *   #include <string.h>
  *
- *   static uint8_t work_pages[16 * 128], stable_pages[16 * 128], work_log[128 * 144], stable_log[128 * 144], desk[136], values[8];
+ *   static uint8_t work_pages[16 * DONZHIKAR_PAGE_BYTES], stable_pages[16 * DONZHIKAR_PAGE_BYTES];
+ *   static uint8_t work_log[128 * DONZHIKAR_SLOT_BYTES], stable_log[128 * DONZHIKAR_SLOT_BYTES];
+ *   static struct donzhikar slides;
  *
- *   #define AREAS work_pages, sizeof work_pages, stable_pages, sizeof stable_pages, work_log, sizeof work_log, \
- *                 stable_log, sizeof stable_log, desk, sizeof desk, values, sizeof values
+ *   static int print(void *with, uint32_t key, uint32_t value)
+ *   {
+ *       (void)with;
+ *       printf("slide %u: %u\n", (unsigned)key, (unsigned)value);
+ *       return 0;
+ *   }
+ *
+ *   static int failed(const char *what, uint32_t reason)
+ *   {
+ *       printf("%s: %u, %s\n", what, (unsigned)reason, donzhikar_text(reason));
+ *       return 1;
+ *   }
  *
  *   int main(void)
  *   {
- *       if (donzhikar_format(AREAS) != 0)
- *           return 1;
- *       if (donzhikar_begin(AREAS) != 0)
- *           return 1;
- *       uint32_t batch = donzhikar_value(values, 0);
- *       uint32_t reason = donzhikar_insert(AREAS, batch, 500, 7);
- *       if (reason == 0)
- *           reason = donzhikar_commit(AREAS, batch);
- *       if (reason != 0) {
- *           printf("not filed: %u\n", (unsigned)reason);
- *           return 1;
- *       }
+ *       const struct donzhikar_slide chosen[] = { { 500, 7 }, { 0, 8 } };
+ *       slides.work_pages = work_pages;
+ *       slides.stable_pages = stable_pages;
+ *       slides.pages = 16;
+ *       slides.work_log = work_log;
+ *       slides.stable_log = stable_log;
+ *       slides.slots = 128;
+ *       uint32_t reason = donzhikar_format_in(&slides);
+ *       if (reason == DONZHIKAR_DONE)
+ *           reason = donzhikar_file_in(&slides, chosen, 1, NULL, NULL);
+ *       if (reason == DONZHIKAR_DONE)
+ *           reason = donzhikar_file_in(&slides, chosen + 1, 1, NULL, NULL);
+ *       if (reason != DONZHIKAR_DONE)
+ *           return failed("file", reason);
  *       memset(work_pages, 0, sizeof work_pages);
  *       memset(work_log, 0, sizeof work_log);
- *       memset(desk, 0, sizeof desk);
- *       if (donzhikar_restart(AREAS) != 0 || donzhikar_begin(AREAS) != 0)
- *           return 1;
- *       batch = donzhikar_value(values, 0);
- *       if (donzhikar_fetch(AREAS, batch, 500) != 0)
- *           return 1;
- *       printf("slide 500: %u\n", (unsigned)donzhikar_value(values, 0));
- *       return 0;
+ *       memset(slides.desk, 0, sizeof slides.desk);
+ *       reason = donzhikar_come_back_in(&slides, NULL, NULL);
+ *       if (reason != DONZHIKAR_DONE)
+ *           return failed("come back", reason);
+ *       uint32_t batch;
+ *       reason = donzhikar_begin_in(&slides, &batch);
+ *       if (reason == DONZHIKAR_DONE)
+ *           reason = donzhikar_list_in(&slides, batch, print, NULL);
+ *       if (reason == DONZHIKAR_DONE)
+ *           reason = donzhikar_abort_in(&slides, batch);
+ *       return reason == DONZHIKAR_DONE ? 0 : failed("list", reason);
  *   }
  */
 #ifndef DONZHIKAR_H
@@ -149,42 +203,70 @@
 extern "C" {
 #endif
 
-enum {
-    DONZHIKAR_PAGE_BYTES = 128,
-    DONZHIKAR_SLOT_BYTES = 144,
-    DONZHIKAR_DESK_BYTES = 136,
-    DONZHIKAR_VALUES_BYTES = 8,
-    DONZHIKAR_FEWEST_PAGES = 16,
-    DONZHIKAR_MOST_PAGES = 896,
-    DONZHIKAR_FEWEST_SLOTS = 64,
-    DONZHIKAR_MOST_SLOTS = 16384
-};
+#define DONZHIKAR_VERSION "1.0.0"
+
+#define DONZHIKAR_PAGE_BYTES 128
+#define DONZHIKAR_SLOT_BYTES 144
+#define DONZHIKAR_DESK_BYTES 136
+#define DONZHIKAR_VALUES_BYTES 8
+#define DONZHIKAR_FEWEST_PAGES 16
+#define DONZHIKAR_MOST_PAGES 896
+#define DONZHIKAR_FEWEST_SLOTS 64
+#define DONZHIKAR_MOST_SLOTS 16384
 
 /* What a call returns. */
-enum {
-    DONZHIKAR_DONE = 0,
-    DONZHIKAR_LENGTHS = 1,
-    DONZHIKAR_PAGE_NUMBER = 2,
-    DONZHIKAR_LAYOUT = 3,
-    DONZHIKAR_LOG = 4,
-    DONZHIKAR_REDO = 5,
-    DONZHIKAR_RULES = 6,
-    DONZHIKAR_UNSOUND = 11,
-    DONZHIKAR_NO_BATCH = 12,
-    DONZHIKAR_EIGHT_OPEN = 13,
-    DONZHIKAR_HELD = 14,
-    DONZHIKAR_PRESENT = 15,
-    DONZHIKAR_ABSENT = 16,
-    DONZHIKAR_SLOTS_SHORT = 17,
-    DONZHIKAR_PAGES_SHORT = 18,
-    DONZHIKAR_ABORT_STOPPED = 19
-};
+#define DONZHIKAR_DONE 0
+#define DONZHIKAR_ERROR_LENGTHS 1
+#define DONZHIKAR_ERROR_PAGE_NUMBER 2
+#define DONZHIKAR_ERROR_DAMAGED_PAGE 3
+#define DONZHIKAR_ERROR_DAMAGED_LOG 4
+#define DONZHIKAR_ERROR_PAGE_AND_LOG_DISAGREE 5
+#define DONZHIKAR_ERROR_DAMAGED_TREE 6
+#define DONZHIKAR_ERROR_NOT_SOUND 11
+#define DONZHIKAR_ERROR_NO_SUCH_BATCH 12
+#define DONZHIKAR_ERROR_EIGHT_BATCHES_OPEN 13
+#define DONZHIKAR_ERROR_HELD_BY_ANOTHER 14
+#define DONZHIKAR_ERROR_ALREADY_PRESENT 15
+#define DONZHIKAR_ERROR_ABSENT 16
+#define DONZHIKAR_ERROR_SLOTS_SHORT 17
+#define DONZHIKAR_ERROR_PAGES_SHORT 18
+#define DONZHIKAR_ERROR_ABORT_STOPPED 19
+
+/* What an insert or delete needs of what is left, and what a begin needs (donzhikar_slots_left, donzhikar_pages_left). */
+#define DONZHIKAR_UPDATE_NEEDS_SLOTS 64
+#define DONZHIKAR_UPDATE_NEEDS_PAGES 14
+#define DONZHIKAR_BEGIN_NEEDS_SLOTS 3
 
 /* The answer's first value (which is 0) or second one (which is 1), out of `values`. */
 static inline uint32_t donzhikar_value(const uint8_t *values, int which)
 {
     const uint8_t *at = values + 4 * which;
-    return (uint32_t)at[0] << 24 | (uint32_t)at[1] << 16 | (uint32_t)at[2] << 8 | (uint32_t)at[3];
+    const uint32_t first = at[0], second = at[1], third = at[2], fourth = at[3];
+    return first << 24 | second << 16 | third << 8 | fourth;
+}
+
+/* A reason in words. */
+static inline const char *donzhikar_text(uint32_t reason)
+{
+    switch (reason) {
+    case DONZHIKAR_DONE: return "done";
+    case DONZHIKAR_ERROR_LENGTHS: return "the lengths of what was lent are wrong or unequal";
+    case DONZHIKAR_ERROR_PAGE_NUMBER: return "there is no page of this number";
+    case DONZHIKAR_ERROR_DAMAGED_PAGE: return "a stored page is damaged";
+    case DONZHIKAR_ERROR_DAMAGED_LOG: return "the stored log is damaged, or a page is ahead of it";
+    case DONZHIKAR_ERROR_PAGE_AND_LOG_DISAGREE: return "a stored page and the log do not agree";
+    case DONZHIKAR_ERROR_DAMAGED_TREE: return "the stored pages make no tree, or do not agree with the open batches";
+    case DONZHIKAR_ERROR_NOT_SOUND: return "the working areas or the desk are not what calls leave; after a power failure, restart";
+    case DONZHIKAR_ERROR_NO_SUCH_BATCH: return "no such batch is open";
+    case DONZHIKAR_ERROR_EIGHT_BATCHES_OPEN: return "eight batches are open";
+    case DONZHIKAR_ERROR_HELD_BY_ANOTHER: return "another open batch has changed this slide, or one on the way to it";
+    case DONZHIKAR_ERROR_ALREADY_PRESENT: return "the slide is there already";
+    case DONZHIKAR_ERROR_ABSENT: return "there is no such slide, or none above";
+    case DONZHIKAR_ERROR_SLOTS_SHORT: return "log slots are short";
+    case DONZHIKAR_ERROR_PAGES_SHORT: return "pages are short";
+    case DONZHIKAR_ERROR_ABORT_STOPPED: return "an abort ran out of slots or pages";
+    default: return "no reason of the register";
+    }
 }
 
 /* Empties all four areas to a register without slides, and gives an empty desk. What the areas and the desk held before does not matter.
@@ -267,6 +349,199 @@ uint32_t donzhikar_restart(
     uint8_t *work_pages, size_t work_pages_length, const uint8_t *stable_pages, size_t stable_pages_length,
     uint8_t *work_log, size_t work_log_length, uint8_t *stable_log, size_t stable_log_length,
     uint8_t *desk, size_t desk_length, uint8_t *values, size_t values_length);
+
+
+/* ---- one register as one argument
+ *
+ * Fill in the four areas and the two counts, and leave the rest zero (as a static variable is). A register is moved or copied as the struct
+ * and its areas together. */
+struct donzhikar {
+    uint8_t *work_pages, *stable_pages; /* each of 128 bytes for each of the pages */
+    size_t pages;
+    uint8_t *work_log, *stable_log; /* each of 144 bytes for each of the slots */
+    size_t slots;
+    uint8_t desk[DONZHIKAR_DESK_BYTES];     /* the register's own; leave it alone between calls */
+    uint8_t values[DONZHIKAR_VALUES_BYTES]; /* the last answer */
+};
+
+/* The twelve arguments of the functions above. */
+#define DONZHIKAR_LENT(r)                                                                                          \
+    (r)->work_pages, (r)->pages * DONZHIKAR_PAGE_BYTES, (r)->stable_pages, (r)->pages * DONZHIKAR_PAGE_BYTES,      \
+        (r)->work_log, (r)->slots * DONZHIKAR_SLOT_BYTES, (r)->stable_log, (r)->slots * DONZHIKAR_SLOT_BYTES,      \
+        (r)->desk, sizeof (r)->desk, (r)->values, sizeof (r)->values
+
+/* An answer's value, where one is asked for: after a refusal it is 0. */
+static inline void donzhikar_give(const struct donzhikar *r, int which, uint32_t *to)
+{
+    if (to != NULL)
+        *to = donzhikar_value(r->values, which);
+}
+
+static inline uint32_t donzhikar_format_in(struct donzhikar *r)
+{
+    return donzhikar_format(DONZHIKAR_LENT(r));
+}
+
+/* Pointers to answers may be NULL here and below. */
+static inline uint32_t donzhikar_begin_in(struct donzhikar *r, uint32_t *batch)
+{
+    const uint32_t reason = donzhikar_begin(DONZHIKAR_LENT(r));
+    donzhikar_give(r, 0, batch);
+    return reason;
+}
+
+static inline uint32_t donzhikar_fetch_in(struct donzhikar *r, uint32_t batch, uint32_t key, uint32_t *value)
+{
+    const uint32_t reason = donzhikar_fetch(DONZHIKAR_LENT(r), batch, key);
+    donzhikar_give(r, 0, value);
+    return reason;
+}
+
+static inline uint32_t donzhikar_next_in(struct donzhikar *r, uint32_t batch, uint32_t key, uint32_t *next_key, uint32_t *value)
+{
+    const uint32_t reason = donzhikar_next(DONZHIKAR_LENT(r), batch, key);
+    donzhikar_give(r, 0, next_key);
+    donzhikar_give(r, 1, value);
+    return reason;
+}
+
+static inline uint32_t donzhikar_insert_in(struct donzhikar *r, uint32_t batch, uint32_t key, uint32_t value)
+{
+    return donzhikar_insert(DONZHIKAR_LENT(r), batch, key, value);
+}
+
+static inline uint32_t donzhikar_delete_in(struct donzhikar *r, uint32_t batch, uint32_t key)
+{
+    return donzhikar_delete(DONZHIKAR_LENT(r), batch, key);
+}
+
+static inline uint32_t donzhikar_commit_in(struct donzhikar *r, uint32_t batch)
+{
+    return donzhikar_commit(DONZHIKAR_LENT(r), batch);
+}
+
+static inline uint32_t donzhikar_abort_in(struct donzhikar *r, uint32_t batch)
+{
+    return donzhikar_abort(DONZHIKAR_LENT(r), batch);
+}
+
+static inline uint32_t donzhikar_write_out_in(struct donzhikar *r, uint32_t page)
+{
+    return donzhikar_write_out(DONZHIKAR_LENT(r), page);
+}
+
+static inline uint32_t donzhikar_restart_in(struct donzhikar *r, uint32_t *ended, uint32_t *redone)
+{
+    const uint32_t reason = donzhikar_restart(DONZHIKAR_LENT(r));
+    donzhikar_give(r, 0, ended);
+    donzhikar_give(r, 1, redone);
+    return reason;
+}
+
+/* ---- what is left, from the desk and the map, after any call that returned 0 */
+
+/* The desk has eight rows of four numbers (batch, last record, next to undo, pending), then the number of slots used. */
+static inline size_t donzhikar_pending(const struct donzhikar *r)
+{
+    size_t pending = 0;
+    for (int row = 0; row < 8; row++)
+        pending += donzhikar_value(r->desk, 4 * row + 3);
+    return pending;
+}
+
+/* Slots beyond those used and those kept for open batches. An insert or delete needs 64 of them and takes 33 to 64, of which it gives 32
+ * back when its batch ends; a begin needs and takes 3. So at least slots / 64 more updates of open batches are taken, and at most
+ * (slots - 31) / 33. */
+static inline size_t donzhikar_slots_left(const struct donzhikar *r)
+{
+    size_t taken = donzhikar_value(r->desk, 32) + 32 * donzhikar_pending(r);
+    for (int row = 0; row < 8; row++)
+        taken += donzhikar_value(r->desk, 4 * row) != 0 ? 2 : 0;
+    return taken < r->slots ? r->slots - taken : 0;
+}
+
+/* Free pages beyond those kept for open batches. An insert or delete needs 14 of them and takes 7 to 14, of which it gives 7 back when its
+ * batch ends. */
+static inline size_t donzhikar_pages_left(const struct donzhikar *r)
+{
+    size_t taken = 7 * donzhikar_pending(r);
+    for (size_t page = 0; page < r->pages; page++)
+        taken += r->work_pages[16 + page / 8] >> (7 - page % 8) & 1;
+    return taken < r->pages ? r->pages - taken : 0;
+}
+
+/* How many more inserts and deletes the open batches are sure to take, whatever their keys. Usually it is nearly twice as many. */
+static inline size_t donzhikar_updates_left(const struct donzhikar *r)
+{
+    const size_t by_slots = donzhikar_slots_left(r) / DONZHIKAR_UPDATE_NEEDS_SLOTS;
+    const size_t by_pages = donzhikar_pages_left(r) / DONZHIKAR_UPDATE_NEEDS_PAGES;
+    return by_slots < by_pages ? by_slots : by_pages;
+}
+
+/* ---- the loops that everyone writes */
+
+/* Gives all slides to `take`, by rising key, as an open batch sees them, until it returns other than 0. Key 0 is looked up by fetch, as no
+ * key is below it; the others come by next. Returns 0 at the end, or the refusal: at 14 another open batch has changed a slide further on.
+ * Wait until that batch has ended, and list again from the start. A program with one batch at a time does not meet it. */
+static inline uint32_t donzhikar_list_in(
+    struct donzhikar *r, uint32_t batch, int (*take)(void *with, uint32_t key, uint32_t value), void *with)
+{
+    uint32_t key = 0, value = 0;
+    uint32_t reason = donzhikar_fetch_in(r, batch, key, &value);
+    if (reason == DONZHIKAR_ERROR_ABSENT)
+        reason = donzhikar_next_in(r, batch, 0, &key, &value);
+    while (reason == DONZHIKAR_DONE) {
+        if (take(with, key, value) != 0)
+            return DONZHIKAR_DONE;
+        reason = donzhikar_next_in(r, batch, key, &key, &value);
+    }
+    return reason == DONZHIKAR_ERROR_ABSENT ? DONZHIKAR_DONE : reason;
+}
+
+struct donzhikar_slide {
+    uint32_t key, value;
+};
+
+/* One try to file a case, all of its slides or none, in a batch of its own. */
+static inline uint32_t donzhikar_try_to_file_in(struct donzhikar *r, const struct donzhikar_slide *slides, size_t count)
+{
+    uint32_t batch = 0;
+    uint32_t reason = donzhikar_begin_in(r, &batch);
+    if (reason != DONZHIKAR_DONE)
+        return reason;
+    for (size_t slide = 0; slide < count && reason == DONZHIKAR_DONE; slide++)
+        reason = donzhikar_insert_in(r, batch, slides[slide].key, slides[slide].value);
+    if (reason == DONZHIKAR_DONE)
+        return donzhikar_commit_in(r, batch);
+    donzhikar_abort_in(r, batch);
+    return reason;
+}
+
+/* Files a case, all of its slides or none. Returns 0 when it is committed; else the refusal, and nothing of it is filed.
+ * 13 and 14 pass when other batches end: `wait` is to let them, and while it returns 0 the case is tried again. With NULL it is tried once.
+ * Each try costs slots, so wait for something. 15: a slide of the case is there already. 17 and 18: commit or abort other batches; else the
+ * register is full, or the case is too large (HOW MUCH FITS). The host has yet to see to it that the stores are there
+ * (WHAT THE HOST MUST GUARANTEE). */
+static inline uint32_t donzhikar_file_in(
+    struct donzhikar *r, const struct donzhikar_slide *slides, size_t count, int (*wait)(void *with), void *with)
+{
+    uint32_t reason;
+    do
+        reason = donzhikar_try_to_file_in(r, slides, count);
+    while ((reason == DONZHIKAR_ERROR_EIGHT_BATCHES_OPEN || reason == DONZHIKAR_ERROR_HELD_BY_ANOTHER) && wait != NULL && wait(with) == 0);
+    return reason;
+}
+
+/* Comes back after a power failure (COMING BACK), or starts. At 17 and 18 `lend_more` is to lend longer areas, the added part zero, by changing
+ * the struct, and while it returns 0 the restart is made again; with NULL it is made once. Returns what the last restart does. */
+static inline uint32_t donzhikar_come_back_in(struct donzhikar *r, int (*lend_more)(void *with, struct donzhikar *r), void *with)
+{
+    uint32_t reason;
+    do
+        reason = donzhikar_restart_in(r, NULL, NULL);
+    while ((reason == DONZHIKAR_ERROR_SLOTS_SHORT || reason == DONZHIKAR_ERROR_PAGES_SHORT) && lend_more != NULL && lend_more(with, r) == 0);
+    return reason;
+}
 
 #ifdef __cplusplus
 }

@@ -4,18 +4,16 @@
 //! answer, the areas, the desk and the list of stores. Nothing is kept between calls, so each call reads the areas anew
 //! and judges them whole, as 01's "sound" says.
 //!
-//! - `layout`: the fields of pages, records and the desk, and their bytes both ways.
-//! - `log`: what a record changes, from what it starts, redo, and the batches that the log leaves open.
-//! - `tree`: the tree rules, the descent and its seven changes.
+//! What reads and judges the areas is a library of its own, `decode` (`../../tools/decode`), which `inspect` uses too.
+//!
+//! - `layout`: the fields of pages, records and the desk, and their bytes both ways (from `decode`).
+//! - `log`: what a record changes, from what it starts, redo, and the batches that the log leaves open (from `decode`).
+//! - `tree`: the tree rules (from `decode`), the descent and its seven changes.
 //! - `calls`: the ten calls.
 //! - `bench`: what the tests need around the calls: power cuts, the vector and console formats, the plain book.
 
 pub mod bench;
 pub mod calls;
-pub mod layout;
-pub mod log;
-pub mod sizes;
 pub mod tree;
 
-mod refusal;
-pub use refusal::Refusal;
+pub use decode::{layout, log, sizes, Fault, Place, Refusal};

@@ -83,7 +83,7 @@ fn pages_are_read_back() {
             entries: random_entries(&mut random, index),
         };
         assert_eq!(Page::read(&page.bytes()), page);
-        assert!(page.obeys_layout(own) && !page.obeys_layout(own + 1));
+        assert!(page.judge_layout(own).is_ok() && page.judge_layout(own + 1).is_err());
     }
 }
 
@@ -106,7 +106,7 @@ fn records_are_read_back() {
             ..Record::new(kind)
         };
         assert_eq!(Record::read(&record.bytes()), Some(record.clone()));
-        assert!(!obeys_row(&record), "no row names every field");
+        assert!(obeys_row(&record).is_err(), "no row names every field");
     }
 }
 
@@ -136,11 +136,11 @@ fn is_free_field(page: usize, bit: usize) -> bool {
 #[test]
 fn every_other_bit_breaks_the_layout() {
     let bytes = Pages::formatted(16).bytes();
-    assert!(Pages::read(&bytes).is_some());
+    assert!(Pages::read(&bytes).is_ok());
     for bit in 0..8 * bytes.len() {
         let mut changed = bytes.clone();
         changed[bit / 8] ^= 0x80 >> (bit % 8);
         let (page, bit) = (bit / 8 / PAGE_BYTES, bit % (8 * PAGE_BYTES));
-        assert_eq!(Pages::read(&changed).is_some(), is_free_field(page, bit), "page {page}, bit {bit}");
+        assert_eq!(Pages::read(&changed).is_ok(), is_free_field(page, bit), "page {page}, bit {bit}");
     }
 }

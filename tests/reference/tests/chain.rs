@@ -21,7 +21,7 @@ fn allowed(records: &[Record]) -> bool {
     let begin = Record { batch: 1, ..Record::new(Kind::Begin) };
     let numbered = std::iter::once(&begin).chain(records).zip(1..);
     let log: Vec<Record> = numbered.map(|(record, own)| Record { own, ..record.clone() }).collect();
-    OpenBatches::after(&log).is_some()
+    OpenBatches::after(&log).is_ok()
 }
 
 #[test]

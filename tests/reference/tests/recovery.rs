@@ -19,7 +19,7 @@ fn restart(areas: &Areas) -> Outcome {
 fn check_image(areas: &Areas, book: &Book) {
     let image = areas.with_right_lengths();
     let (redone, _) = redo_alone(&image).expect("redo never meets damage");
-    assert!(slides_of(&redone.pages).is_some(), "redo alone gives a tree by the rules");
+    assert!(slides_of(&redone.pages).is_ok(), "redo alone gives a tree by the rules");
     let outcome = restart(&image);
     match outcome.answer {
         Ok(_) => check_slides(&outcome, book),

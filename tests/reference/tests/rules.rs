@@ -20,7 +20,7 @@ fn tree_of(slides: u32) -> Pages {
 fn tree() -> Pages {
     let pages = tree_of(300);
     assert_eq!(pages.list[ROOT].level, 2);
-    assert_eq!(slides_of(&pages).map(|slides| slides.len()), Some(300));
+    assert_eq!(slides_of(&pages).map(|slides| slides.len()), Ok(300));
     pages
 }
 
@@ -32,7 +32,7 @@ fn second_child(pages: &Pages, page: usize) -> usize {
 fn is_broken(break_rule: impl FnOnce(&mut Pages)) -> bool {
     let mut pages = tree();
     break_rule(&mut pages);
-    slides_of(&pages).is_none()
+    slides_of(&pages).is_err()
 }
 
 /// Whether the change to a leaf, with a leaf on each side, is seen.
@@ -65,9 +65,9 @@ fn high_keys_rise_strictly_and_the_last_is_top() {
     assert!(is_broken_leaf(|page| page.high = TOP));
     assert!(is_broken_leaf(|page| page.high += 1), "the entry above stands for one page only");
     let mut empty = Pages::formatted(16);
-    assert!(slides_of(&empty).is_some());
+    assert!(slides_of(&empty).is_ok());
     empty.list[ROOT].high = TOP - 1;
-    assert!(slides_of(&empty).is_none());
+    assert!(slides_of(&empty).is_err());
 }
 
 #[test]
@@ -115,9 +115,9 @@ fn pages_hold_at_least_4_entries() {
     let mut beside_sibling = tree_of(15);
     assert_ne!(beside_sibling.list[ROOT].right, 0);
     beside_sibling.list[ROOT].entries.truncate(4);
-    assert!(slides_of(&beside_sibling).is_some());
+    assert!(slides_of(&beside_sibling).is_ok());
     beside_sibling.list[ROOT].entries.truncate(3);
-    assert!(slides_of(&beside_sibling).is_none(), "the root has a right sibling and then holds at least 4");
+    assert!(slides_of(&beside_sibling).is_err(), "the root has a right sibling and then holds at least 4");
 }
 
 #[test]
@@ -133,7 +133,7 @@ fn the_root_has_at_most_one_right_sibling() {
     last.own = third;
     pages.list[third] = last;
     pages.map.take(third);
-    assert!(slides_of(&pages).is_none());
+    assert!(slides_of(&pages).is_err());
 }
 
 #[test]

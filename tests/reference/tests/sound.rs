@@ -109,7 +109,7 @@ fn open_after(updates: &[(u32, Kind, u32, u32)]) -> OpenBatches {
     let mut write = |mut record: Record, own: u32| {
         record.own = own;
         record.previous = open.find(record.batch).map_or(0, |batch| batch.last);
-        assert!(open.follow(&record));
+        assert!(open.follow(&record).is_ok());
     };
     write(Record { batch: 1, ..Record::new(Kind::Begin) }, 1);
     write(Record { batch: 2, ..Record::new(Kind::Begin) }, 2);
@@ -123,7 +123,8 @@ fn open_after(updates: &[(u32, Kind, u32, u32)]) -> OpenBatches {
 fn the_pending_rule() {
     use Kind::{Delete, Insert};
     let five = [Entry::new(5, 50)];
-    let holds = |updates: &[(u32, Kind, u32, u32)], slides: &[Entry]| obeys_pending_rule(&open_after(updates), slides);
+    let holds =
+        |updates: &[(u32, Kind, u32, u32)], slides: &[Entry]| obeys_pending_rule(&open_after(updates), slides).is_ok();
     assert!(holds(&[(1, Insert, 5, 50)], &five));
     assert!(!holds(&[(1, Insert, 5, 50)], &[]), "the newest agrees with the tree");
     assert!(!holds(&[(1, Insert, 5, 51)], &five), "its value too");

@@ -95,8 +95,8 @@ fn is_refused(before: &Pages, record: &Record, role: Role, number: usize, respec
     }
     match redo(&mut pages, std::slice::from_ref(record)) {
         Ok(_) => Some(false),
-        Err(refusal) => {
-            assert_eq!(refusal, Refusal::Redo);
+        Err(fault) => {
+            assert_eq!(fault.refusal, Refusal::Redo);
             Some(true)
         }
     }
@@ -165,5 +165,5 @@ fn a_redistribution_puts_nothing_above_a_childs_ten_bits_into_an_index() {
     // As if B had been stored with the change, so that only A is looked at.
     pages.list[5].log = 1;
     record.entries[1].value |= 1 << 10;
-    assert_eq!(redo(&mut pages, &[record]), Err(Refusal::Redo));
+    assert_eq!(redo(&mut pages, &[record]).map_err(|fault| fault.refusal), Err(Refusal::Redo));
 }

@@ -26,7 +26,7 @@ fn update(work: &mut Work, key: u32, kind: Kind) {
     assert!(new.len() <= UPDATE_RECORDS && taken <= UPDATE_PAGES);
     for record in new {
         redo(&mut pages, std::slice::from_ref(record)).expect("each change starts from what its row says");
-        assert!(slides_of(&pages).is_some(), "{:?} leaves a tree by the rules", record.kind);
+        assert!(slides_of(&pages).is_ok(), "{:?} leaves a tree by the rules", record.kind);
         check_halves(&pages, record);
     }
     assert!(pages == work.pages, "redo of what was written makes the same pages");

@@ -22,8 +22,8 @@ fn full_length(log: &[u8]) -> usize {
 
 /// Forge the stored image in one or two places. None where it does not keep its layout already, or is empty.
 pub fn forge_image(random: &mut Random, areas: &Areas) -> Option<Areas> {
-    let mut pages = Pages::read(&areas.stable_pages)?;
-    let mut log = Log::read(&areas.stable_log, pages.count())?;
+    let mut pages = Pages::read(&areas.stable_pages).ok()?;
+    let mut log = Log::read(&areas.stable_log, pages.count()).ok()?;
     for _ in 0..random.within(1, 2) {
         if random.once_in(3) {
             forge_pages(random, &mut pages);

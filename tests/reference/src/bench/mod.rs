@@ -26,4 +26,4 @@ pub use full::{full_register, image_of};
 pub use instrument::{Event, Instrument};
 pub use random::Random;
 pub use trace::{damaged_trace, run, trace, Run, Shape};
-pub use vectors::run_vectors;
+pub use vectors::{areas_after, run_vectors};

@@ -5,6 +5,7 @@ use super::hash::{fnv1a, AreaHash};
 use super::line::lines_of;
 use super::{Command, Event, Instrument};
 use crate::calls::Answer;
+use crate::layout::Areas;
 use crate::Refusal;
 use std::fmt::Write;
 
@@ -20,6 +21,15 @@ pub fn run_vectors(input: &[u8]) -> Result<String, usize> {
         }
     }
     Ok(output)
+}
+
+/// The areas that a whole input leaves. The error is the number of the first line that is no command.
+pub fn areas_after(input: &[u8]) -> Result<Areas, usize> {
+    let mut instrument = Instrument::default();
+    for (line, number) in lines_of(input).zip(1usize..) {
+        instrument.run(&Command::read(line).ok_or(number)?);
+    }
+    Ok(instrument.areas)
 }
 
 fn line_of(event: &Event, instrument: &Instrument, hashes: &mut [AreaHash; 4]) -> String {

@@ -14,7 +14,7 @@ mod write_out;
 
 pub use end::take_back;
 pub use outcome::{Answer, Outcome};
-pub use restart::redo_alone;
+pub use restart::{redo_alone, try_restart, Restarted};
 pub use sound::{pages_suffice, slots_suffice, sound, Sound};
 pub use update::write_update;
 

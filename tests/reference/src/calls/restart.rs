@@ -6,16 +6,23 @@ use super::{Answer, Outcome};
 use crate::layout::{Areas, Desk, Kind};
 use crate::log::{obeys_pending_rule, redo, Update, Work};
 use crate::tree::slides_of;
-use crate::Refusal;
+use crate::{Fault, Place, Refusal};
 
 pub fn restart(areas: &Areas) -> Outcome {
     match try_restart(areas) {
-        Ok((work, stored, answer)) => {
+        Ok(Restarted { work, stored, answer }) => {
             let stores = store_records(&work, stored);
             Outcome::done(areas, &work, work.log.last_number(), stores, answer)
         }
-        Err(refusal) => refused(areas, refusal),
+        Err(fault) => refused(areas, fault.refusal),
     }
+}
+
+/// A register after a restart, the number of records that the stable log had before, and the answer.
+pub struct Restarted {
+    pub work: Work,
+    pub stored: u32,
+    pub answer: Answer,
 }
 
 /// "Restart's 3 to 18 zero the working areas; a refused restart gives an empty desk."
@@ -27,21 +34,39 @@ fn refused(areas: &Areas, refusal: Refusal) -> Outcome {
     outcome
 }
 
-fn try_restart(areas: &Areas) -> Result<(Work, u32, Answer), Refusal> {
+/// What a restart makes of the stable areas, or what is wrong with them.
+pub fn try_restart(areas: &Areas) -> Result<Restarted, Fault> {
     let (mut work, changes) = redo_alone(areas)?;
-    let slides = slides_of(&work.pages).ok_or(Refusal::Tree)?;
-    if !obeys_pending_rule(&work.open, &slides) {
-        return Err(Refusal::Tree);
-    }
+    let slides = slides_of(&work.pages)?;
+    obeys_pending_rule(&work.open, &slides)?;
     let stored = work.log.last_number();
-    let ended = end_all(&mut work)?;
-    Ok((work, stored, Answer::Restarted { ended, changes }))
+    let ended = end_all(&mut work).map_err(|refusal| short(refusal, &work))?;
+    Ok(Restarted { work, stored, answer: Answer::Restarted { ended, changes } })
+}
+
+/// Restart's 17 and 18.
+fn short(refusal: Refusal, work: &Work) -> Fault {
+    let next = work.log.records.len() + 1;
+    match refusal {
+        Refusal::SlotsShort => {
+            Fault::new(refusal, Place::Slot(next), "to end the open batches it is needed, and not lent")
+        }
+        _ => Fault::new(
+            refusal,
+            Place::Page(work.pages.count()),
+            "to end the open batches a page is needed, and none is free",
+        ),
+    }
 }
 
 /// The stable areas with every change redone and nothing undone, and how many page changes that took. Checks 1, 3, 4, 5.
-pub fn redo_alone(areas: &Areas) -> Result<(Work, u32), Refusal> {
+pub fn redo_alone(areas: &Areas) -> Result<(Work, u32), Fault> {
     if !areas.lengths_are_right() {
-        return Err(Refusal::Lengths);
+        return Err(Fault::new(
+            Refusal::Lengths,
+            Place::Areas,
+            "their lengths are wrong, or those of a kind are unequal",
+        ));
     }
     let mut work = Work::read(&areas.stable_pages, &areas.stable_log)?;
     let changes = redo(&mut work.pages, &work.log.records)?;

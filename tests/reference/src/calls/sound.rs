@@ -16,8 +16,8 @@ pub struct Sound {
 /// None if the working areas or the desk are not sound. The lengths are right.
 pub fn sound(areas: &Areas, desk: &Desk) -> Option<Sound> {
     let work = Work::read(&areas.working_pages, &areas.working_log).ok()?;
-    let slides = slides_of(&work.pages)?;
-    let holds = obeys_pending_rule(&work.open, &slides)
+    let slides = slides_of(&work.pages).ok()?;
+    let holds = obeys_pending_rule(&work.open, &slides).is_ok()
         && *desk == work.open.desk(work.log.last_number(), desk.stored)
         && stored_count_is_right(areas, desk)
         && reserves_hold(&work);

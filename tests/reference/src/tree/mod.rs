@@ -3,7 +3,6 @@
 pub(crate) mod change;
 mod descent;
 mod join;
-mod rules;
 
+pub use decode::rules::slides_of;
 pub use descent::{go_down, Purpose};
-pub use rules::slides_of;

@@ -14,15 +14,17 @@ pub struct Keys {
     /// Whether slides are mostly put in now.
     pub growing: bool,
     most_slides: usize,
+    /// One key in so many is from the ends, or from anywhere.
+    ends: usize,
 }
 
 impl Keys {
-    pub fn new(random: &mut Random, most_pages: usize) -> Keys {
+    pub fn new(random: &mut Random, most_pages: usize, ends: usize) -> Keys {
         let room = 14 + 5 * (most_pages - FEWEST_PAGES);
         let most_slides = room.min(random.within(100, 420));
         let span = most_slides + most_slides / 3 + 1;
         let stride = [1, 10, TOP / span as u32][random.below(3)];
-        let mut keys = Keys { span, stride, cursor: 0, step: 1, growing: true, most_slides };
+        let mut keys = Keys { span, stride, cursor: 0, step: 1, growing: true, most_slides, ends };
         keys.turn(random);
         keys
     }
@@ -51,7 +53,7 @@ impl Keys {
     /// Mostly the next key of the set; now and then one from the edge.
     pub fn any(&mut self, random: &mut Random) -> u32 {
         let edge = [0, 1, TOP - 1, TOP, random.number()][random.below(5)];
-        if random.once_in(40) {
+        if random.once_in(self.ends) {
             edge
         } else {
             self.advance()

@@ -42,7 +42,7 @@ pub fn stores_of(stores: &[Store], wanted: fn(Kind) -> bool) -> Vec<usize> {
 impl Maker {
     pub fn new(mut random: Random, calls: usize, shape: Shape) -> Maker {
         let temper = Temper::new(&mut random, shape);
-        let keys = Keys::new(&mut random, temper.most_pages);
+        let keys = Keys::new(&mut random, temper.most_pages, temper.ends);
         let instrument = Instrument::default();
         Maker { random, instrument, sound: None, commands: Vec::new(), calls_left: calls, keys, temper }
     }

@@ -13,10 +13,12 @@ pub enum Shape {
     Crowded,
     /// 896 pages and 16,384 slots, most of them used from the start.
     Largest,
+    /// Areas that just suffice or fall just short, and first and last keys.
+    Edge,
 }
 
 impl Shape {
-    pub const ALL: [Shape; 4] = [Shape::Plain, Shape::Damaged, Shape::Crowded, Shape::Largest];
+    pub const ALL: [Shape; 5] = [Shape::Plain, Shape::Damaged, Shape::Crowded, Shape::Largest, Shape::Edge];
 
     pub fn name(self) -> &'static str {
         match self {
@@ -24,6 +26,7 @@ impl Shape {
             Shape::Damaged => "damaged",
             Shape::Crowded => "crowded",
             Shape::Largest => "largest",
+            Shape::Edge => "edge",
         }
     }
 }
@@ -41,6 +44,10 @@ pub struct Temper {
     pub wanted_pending: usize,
     /// How many of a hundred steps begin a batch where one is wanted.
     pub begins: usize,
+    /// Whether the areas are as large as they may become from the start.
+    pub exact: bool,
+    /// One key in so many is a first or last one, or any at all.
+    pub ends: usize,
 }
 
 impl Temper {
@@ -49,6 +56,7 @@ impl Temper {
             Shape::Plain | Shape::Damaged => Temper::any(random),
             Shape::Crowded => Temper::crowded(random),
             Shape::Largest => Temper::largest(random),
+            Shape::Edge => Temper::edge(random),
         }
     }
 
@@ -63,6 +71,8 @@ impl Temper {
             wanted_open: random.within(1, 4),
             wanted_pending: if deep { random.within(6, 16) } else { random.within(2, 12) },
             begins: 8,
+            exact: false,
+            ends: 40,
         }
     }
 
@@ -76,6 +86,8 @@ impl Temper {
             wanted_open: MOST_BATCHES + 1,
             wanted_pending: random.within(10, 30),
             begins: 30,
+            exact: false,
+            ends: 40,
         }
     }
 
@@ -88,6 +100,24 @@ impl Temper {
             wanted_open: random.within(2, MOST_BATCHES + 1),
             wanted_pending: random.within(6, 16),
             begins: 15,
+            exact: false,
+            ends: 40,
+        }
+    }
+
+    /// A first update needs 67 slots and 16 pages, and each one that is pending 32 and 7 more.
+    fn edge(random: &mut Random) -> Temper {
+        let pending = random.below(4);
+        Temper {
+            deep: false,
+            most_pages: (15 + 7 * pending).max(16) + random.below(3),
+            most_slots: [64, 66, 67, 68, 99, 100, 101, 131, 132, 133, 400][random.below(11)] + 32 * pending,
+            calm: 20,
+            wanted_open: random.within(1, 3),
+            wanted_pending: pending + 1,
+            begins: 20,
+            exact: true,
+            ends: 4,
         }
     }
 }

@@ -11,8 +11,11 @@ use crate::sizes::{FEWEST_PAGES, FEWEST_SLOTS, PAGE_BYTES, SLOT_BYTES, TOP};
 
 /// Lend the areas, sometimes call before they are formatted, and format.
 pub fn first_format(maker: &mut Maker) {
-    let fewest_pages = if maker.temper.deep { maker.temper.most_pages / 2 } else { FEWEST_PAGES };
-    let fewest_slots = if maker.temper.deep { maker.temper.most_slots - 200 } else { FEWEST_SLOTS };
+    let (fewest_pages, fewest_slots) = match (maker.temper.exact, maker.temper.deep) {
+        (true, _) => (maker.temper.most_pages, maker.temper.most_slots),
+        (_, true) => (maker.temper.most_pages / 2, maker.temper.most_slots - 200),
+        _ => (FEWEST_PAGES, FEWEST_SLOTS),
+    };
     let pages = maker.random.within(fewest_pages, maker.temper.most_pages);
     let slots = maker.random.within(fewest_slots, maker.temper.most_slots);
     if maker.random.once_in(4) {

@@ -1,0 +1,147 @@
+//! What can be brought back from a damaged image: newly formatted pages, and the log up to the damage. The log is never
+//! written over, so from formatted pages on it says everything; the stored pages only save redoing it.
+
+use crate::image::Image;
+use crate::why::why_image;
+use decode::layout::{Areas, Kind, Pages, Record};
+use decode::log::{is_empty_slot, obeys_pending_rule, read_slot, redo, Log, OpenBatches};
+use decode::rules::slides_of;
+use decode::sizes::SLOT_BYTES;
+use decode::Fault;
+
+pub struct Salvaged {
+    pub image: Image,
+    /// What was kept and what is lost, and what a restart of the new image answers.
+    pub lines: Vec<String>,
+}
+
+pub fn salvage(image: &Image) -> Result<Salvaged, String> {
+    let areas = &image.areas;
+    if !areas.lengths_are_right() {
+        return Err("restart answers 1: the areas' lengths are wrong".to_string());
+    }
+    let (records, fault) = sure_part(areas);
+    let mut saved = Image::raw(Pages::formatted(areas.page_count()).bytes(), Vec::new());
+    saved.shape = image.shape;
+    saved.areas = Areas {
+        stable_pages: saved.areas.stable_pages,
+        ..Areas::default().grown(areas.page_count(), areas.slot_count())
+    };
+    let log = Log { records, slots: areas.slot_count() };
+    saved.areas.stable_log = log.bytes();
+    let mut lines = vec![kept(log.records.len())];
+    lines.push(match fault {
+        Some(fault) => format!("damage in the log: {}", image.said(&fault)),
+        None => "damage in the log: none; the pages are made anew".to_string(),
+    });
+    lines.extend(missing(areas, log.records.len()));
+    lines.extend(lost_cases(areas, &log.records));
+    lines.push(format!("of what is brought back: {}", why_image(&saved).1));
+    Ok(Salvaged { image: saved, lines })
+}
+
+fn kept(records: usize) -> String {
+    match records {
+        0 => "kept: no record".to_string(),
+        1 => "kept: record 1".to_string(),
+        _ => format!("kept: records 1 to {records}"),
+    }
+}
+
+/// The longest first part of the log that can be trusted, and what is wrong after it.
+fn sure_part(areas: &Areas) -> (Vec<Record>, Option<Fault>) {
+    let (mut records, mut fault) = Log::first_part(&areas.stable_log, areas.page_count());
+    let mut cut = |records: &mut Vec<Record>, found: Option<(usize, Fault)>| {
+        if let Some((count, found)) = found {
+            records.truncate(count);
+            fault = Some(found);
+        }
+    };
+    let chain = chain_break(&records);
+    cut(&mut records, chain);
+    let start = first_not_redone(&records, areas.page_count(), false);
+    cut(&mut records, start);
+    // The rules hold after every record of a log that the register wrote. So they are asked once, and the record after
+    // which they break is looked for only where they do.
+    if judge_whole(&records, areas.page_count()).is_err() {
+        let rule = first_not_redone(&records, areas.page_count(), true);
+        cut(&mut records, rule);
+    }
+    (records, fault)
+}
+
+/// How many records keep the batch chain, where not all do.
+fn chain_break(records: &[Record]) -> Option<(usize, Fault)> {
+    let fault = OpenBatches::after(records).err()?;
+    let mut open = OpenBatches::default();
+    let count = records.iter().take_while(|record| open.follow(record).is_ok()).count();
+    Some((count, fault))
+}
+
+fn judge_whole(records: &[Record], page_count: usize) -> Result<(), Fault> {
+    let mut pages = Pages::formatted(page_count);
+    redo(&mut pages, records)?;
+    obeys_pending_rule(&OpenBatches::after(records)?, &slides_of(&pages)?)
+}
+
+/// How many records can be redone on formatted pages, where not all can; and, if asked, with the rules after each.
+fn first_not_redone(records: &[Record], page_count: usize, with_rules: bool) -> Option<(usize, Fault)> {
+    let mut pages = Pages::formatted(page_count);
+    let mut open = OpenBatches::default();
+    for (count, record) in records.iter().enumerate() {
+        let _ = open.follow(record);
+        let mut redone = redo(&mut pages, std::slice::from_ref(record)).map(drop);
+        if with_rules {
+            redone = redone.and_then(|()| slides_of(&pages)).and_then(|slides| obeys_pending_rule(&open, &slides));
+        }
+        if let Err(fault) = redone {
+            return Some((count, fault));
+        }
+    }
+    None
+}
+
+/// Records of which only the pages still tell.
+fn missing(areas: &Areas, kept: usize) -> Option<String> {
+    let full = areas.stable_log.chunks_exact(SLOT_BYTES).zip(1..).filter(|(bytes, _)| !is_empty_slot(bytes));
+    let last_full = full.map(|(_, slot)| slot).max().unwrap_or(0);
+    let pages = Pages::read(&areas.stable_pages).ok()?;
+    let newest = pages.list.iter().map(|page| page.log as usize).max().unwrap_or(0);
+    (newest > last_full.max(kept)).then(|| {
+        format!("pages were changed by records up to {newest}, and the log ends at {last_full}: what the others said is lost")
+    })
+}
+
+/// The cases whose commit stands after the damage, with their updates; and slots there that cannot be read.
+fn lost_cases(areas: &Areas, kept: &[Record]) -> Vec<String> {
+    let mut after = Vec::new();
+    let mut lines = Vec::new();
+    for (bytes, slot) in areas.stable_log.chunks_exact(SLOT_BYTES).zip(1..).skip(kept.len()) {
+        match read_slot(bytes, slot, areas.page_count()) {
+            _ if is_empty_slot(bytes) => {}
+            Ok(record) => after.push(record),
+            Err(_) => {
+                lines.push(format!("lost: slot {slot} cannot be read; if a case was committed there, it is lost too"))
+            }
+        }
+    }
+    let commits = after.iter().filter(|record| record.kind == Kind::Commit);
+    lines.extend(commits.map(|commit| lost_case(commit, kept, &after)));
+    if lines.is_empty() {
+        lines.push("lost: no case".to_string());
+    }
+    lines
+}
+
+fn lost_case(commit: &Record, kept: &[Record], after: &[Record]) -> String {
+    let of_batch = kept.iter().chain(after).filter(|record| record.batch == commit.batch);
+    let updates: Vec<String> = of_batch
+        .filter_map(|record| match record.kind {
+            Kind::Insert => Some(format!("insert {} {}", record.key, record.second)),
+            Kind::Delete => Some(format!("delete {}", record.key)),
+            _ => None,
+        })
+        .collect();
+    let updates = if updates.is_empty() { "no update that can be read".to_string() } else { updates.join(", ") };
+    format!("lost: batch {}, committed by record {}: {updates}", commit.batch, commit.own)
+}
