@@ -16,6 +16,13 @@ double now(void)
     return (double)at.tv_sec * 1e6 + (double)at.tv_nsec / 1e3;
 }
 
+double wall(void)
+{
+    struct timespec at;
+    clock_gettime(CLOCK_MONOTONIC, &at);
+    return (double)at.tv_sec * 1e6 + (double)at.tv_nsec / 1e3;
+}
+
 /* The least time between two readings of the clock, looked for at the first asking. */
 static double step(void)
 {

@@ -15,6 +15,9 @@ struct times {
 /* Microseconds that this program has had the processor: what other programs take is not in it. */
 double now(void);
 
+/* Microseconds that went by, for what waits for the drive: other programs are in it. */
+double wall(void);
+
 /* Adds the time from one moment to another, less what it takes to read the clock. */
 void take(struct times *times, double from, double to);
 

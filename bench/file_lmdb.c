@@ -1,4 +1,4 @@
-/* LMDB files a case: whole-number keys, a file that is mapped, nothing flushed to the disk. */
+/* LMDB files a case: whole-number keys, a file that is mapped, flushed to the drive or not. */
 #include "filer.h"
 #include <lmdb.h>
 #include <stdio.h>
@@ -34,7 +34,7 @@ static void insert(struct opened *in, MDB_txn *txn, uint32_t key)
 }
 
 /* MDB_NOSUBDIR: the path is the file itself, and the lock file stands beside it. */
-static void open_env(struct opened *in, const char *folder)
+static void open_env(struct opened *in, const char *folder, unsigned flags)
 {
     char path[512];
     snprintf(path, sizeof path, "%s/lmdb-lock", folder);
@@ -43,21 +43,31 @@ static void open_env(struct opened *in, const char *folder)
     remove(path);
     need(mdb_env_create(&in->env));
     need(mdb_env_set_mapsize(in->env, MAP_BYTES));
-    need(mdb_env_open(in->env, path, MDB_NOSYNC | MDB_NOSUBDIR, READABLE));
+    need(mdb_env_open(in->env, path, flags | MDB_NOSUBDIR, READABLE));
 }
 
-static void *open_lmdb(const struct scene *scene, const char *folder)
+static void *open_with(const struct scene *scene, const char *folder, unsigned flags)
 {
     struct opened *in = calloc(1, sizeof *in);
     if (in == NULL)
         exit(2);
-    open_env(in, folder);
+    open_env(in, folder, flags);
     MDB_txn *txn = begin(in);
     need(mdb_dbi_open(txn, NULL, MDB_INTEGERKEY, &in->slides));
     for (uint32_t i = scene->oldest; i < scene->newest; i++)
         insert(in, txn, key_of(i));
     need(mdb_txn_commit(txn));
     return in;
+}
+
+static void *open_unflushed(const struct scene *scene, const char *folder)
+{
+    return open_with(scene, folder, MDB_NOSYNC);
+}
+
+static void *open_flushed(const struct scene *scene, const char *folder)
+{
+    return open_with(scene, folder, 0);
 }
 
 static void file(void *opened, const uint32_t keys[CASE_SLIDES])
@@ -86,4 +96,5 @@ static void close_lmdb(void *opened)
     free(opened);
 }
 
-const struct filer lmdb_filer = { "LMDB in a file", open_lmdb, file, take_back, close_lmdb };
+const struct filer lmdb_filer = { "LMDB in a file", open_unflushed, file, take_back, close_lmdb, NULL, NULL };
+const struct filer lmdb_flushed = { "LMDB", open_flushed, file, take_back, close_lmdb, NULL, NULL };

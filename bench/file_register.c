@@ -40,4 +40,4 @@ static void close_register(void *opened)
     free(opened);
 }
 
-const struct filer register_filer = { "register", open_register, file, take_back, close_register };
+const struct filer register_filer = { "register", open_register, file, take_back, close_register, NULL, NULL };

@@ -1,7 +1,6 @@
-/* SQLite files a case: one table by key, prepared statements, nothing flushed to the disk. */
+/* SQLite files a case: in memory or in a file, flushed to the drive or not. */
 #include "filer.h"
-#include <sqlite3.h>
-#include <stdio.h>
+#include "sqlite_slides.h"
 #include <stdlib.h>
 
 enum { BEGIN, INSERT, DELETE, COMMIT, STATEMENTS };
@@ -11,86 +10,64 @@ struct opened {
     sqlite3_stmt *statements[STATEMENTS];
 };
 
-static void need(struct opened *in, int good)
-{
-    if (!good) {
-        fprintf(stderr, "SQLite: %s\n", sqlite3_errmsg(in->base));
-        exit(1);
-    }
-}
-
 static void step(struct opened *in, int which)
 {
-    need(in, sqlite3_step(in->statements[which]) == SQLITE_DONE);
-    need(in, sqlite3_reset(in->statements[which]) == SQLITE_OK);
+    slides_step(in->statements[which], SQLITE_DONE);
 }
 
-static void insert(struct opened *in, uint32_t key)
-{
-    sqlite3_bind_int64(in->statements[INSERT], 1, key);
-    sqlite3_bind_int64(in->statements[INSERT], 2, 7);
-    step(in, INSERT);
-}
-
-static void prepare(struct opened *in)
+static struct opened *open_at(const struct scene *scene, const char *folder, const char *name, const char *settings)
 {
     static const char *const texts[STATEMENTS] = {
-        "BEGIN IMMEDIATE", "INSERT INTO slides VALUES (?, ?)", "DELETE FROM slides WHERE key = ?", "COMMIT",
+        "BEGIN IMMEDIATE", "INSERT INTO slides VALUES (?, 7)", "DELETE FROM slides WHERE key = ?", "COMMIT",
     };
-    need(in, sqlite3_exec(in->base, "CREATE TABLE slides (key INTEGER PRIMARY KEY, value INTEGER)", NULL, NULL, NULL) == SQLITE_OK);
-    for (int i = 0; i < STATEMENTS; i++)
-        need(in, sqlite3_prepare_v2(in->base, texts[i], -1, &in->statements[i], NULL) == SQLITE_OK);
-}
-
-static struct opened *open_at(const struct scene *scene, const char *path, const char *settings)
-{
     struct opened *in = calloc(1, sizeof *in);
     if (in == NULL)
         exit(2);
-    need(in, sqlite3_open(path, &in->base) == SQLITE_OK);
-    need(in, sqlite3_exec(in->base, settings, NULL, NULL, NULL) == SQLITE_OK);
-    prepare(in);
-    step(in, BEGIN);
-    for (uint32_t i = scene->oldest; i < scene->newest; i++)
-        insert(in, key_of(i));
-    step(in, COMMIT);
+    in->base = slides_open(scene, folder, name, settings);
+    for (int i = 0; i < STATEMENTS; i++)
+        in->statements[i] = slides_prepare(in->base, texts[i]);
     return in;
 }
 
 static void *open_memory(const struct scene *scene, const char *folder)
 {
-    (void)folder;
-    return open_at(scene, ":memory:", "");
+    return open_at(scene, folder, NULL, "");
 }
 
 static void *open_file(const struct scene *scene, const char *folder)
 {
-    char path[512];
-    static const char *const ends[] = { "", "-wal", "-shm" };
-    for (int i = 2; i >= 0; i--) {
-        snprintf(path, sizeof path, "%s/sqlite%s", folder, ends[i]);
-        remove(path);
+    return open_at(scene, folder, "sqlite", "PRAGMA journal_mode = WAL; PRAGMA synchronous = OFF");
+}
+
+static void *open_rollback(const struct scene *scene, const char *folder)
+{
+    return open_at(scene, folder, "sqlite-rollback", "PRAGMA journal_mode = DELETE; PRAGMA synchronous = FULL");
+}
+
+static void *open_ahead(const struct scene *scene, const char *folder)
+{
+    return open_at(scene, folder, "sqlite-ahead", "PRAGMA journal_mode = WAL; PRAGMA synchronous = FULL");
+}
+
+/* One transaction, with one of the statements for each key. */
+static void each(struct opened *in, int which, const uint32_t keys[CASE_SLIDES])
+{
+    step(in, BEGIN);
+    for (int i = 0; i < CASE_SLIDES; i++) {
+        sqlite3_bind_int64(in->statements[which], 1, keys[i]);
+        step(in, which);
     }
-    return open_at(scene, path, "PRAGMA journal_mode = WAL; PRAGMA synchronous = OFF");
+    step(in, COMMIT);
 }
 
 static void file(void *opened, const uint32_t keys[CASE_SLIDES])
 {
-    step(opened, BEGIN);
-    for (int i = 0; i < CASE_SLIDES; i++)
-        insert(opened, keys[i]);
-    step(opened, COMMIT);
+    each(opened, INSERT, keys);
 }
 
 static void take_back(void *opened, const uint32_t keys[CASE_SLIDES])
 {
-    struct opened *in = opened;
-    step(in, BEGIN);
-    for (int i = 0; i < CASE_SLIDES; i++) {
-        sqlite3_bind_int64(in->statements[DELETE], 1, keys[i]);
-        step(in, DELETE);
-    }
-    step(in, COMMIT);
+    each(opened, DELETE, keys);
 }
 
 static void close_base(void *opened)
@@ -102,5 +79,7 @@ static void close_base(void *opened)
     free(in);
 }
 
-const struct filer sqlite_in_memory = { "SQLite in memory", open_memory, file, take_back, close_base };
-const struct filer sqlite_in_file = { "SQLite in a file", open_file, file, take_back, close_base };
+const struct filer sqlite_in_memory = { "SQLite in memory", open_memory, file, take_back, close_base, NULL, NULL };
+const struct filer sqlite_in_file = { "SQLite in a file", open_file, file, take_back, close_base, NULL, NULL };
+const struct filer sqlite_rollback = { "SQLite, rollback journal", open_rollback, file, take_back, close_base, NULL, NULL };
+const struct filer sqlite_ahead = { "SQLite, write-ahead log", open_ahead, file, take_back, close_base, NULL, NULL };

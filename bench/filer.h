@@ -15,14 +15,27 @@ struct filer {
     /* Makes it as it was before the case. */
     void (*take_back)(void *opened, const uint32_t keys[CASE_SLIDES]);
     void (*close)(void *opened);
+    /* Microseconds of the last case that are shown beside it, and what took them. NULL where nothing is. */
+    double (*part)(void);
+    const char *part_name;
 };
 
+/* Nothing is flushed to the drive. */
 extern const struct filer register_filer;
 #ifdef WITH_SQLITE
 extern const struct filer sqlite_in_memory, sqlite_in_file;
 #endif
 #ifdef WITH_LMDB
 extern const struct filer lmdb_filer;
+#endif
+
+/* A case is on the drive when it is committed. */
+extern const struct filer host_filer;
+#ifdef WITH_SQLITE
+extern const struct filer sqlite_rollback, sqlite_ahead;
+#endif
+#ifdef WITH_LMDB
+extern const struct filer lmdb_flushed;
 #endif
 
 #endif

@@ -22,9 +22,9 @@
  * Every function takes the same things first, in this order, each as a pointer and a length in bytes:
  *
  *   work_pages     the working pages. Memory; lost when the power fails.
- *   stable_pages   the stable pages. Kept when the power fails.
+ *   stable_pages   the stable pages. The host keeps a copy of them that outlasts a power failure.
  *   work_log       the working log. Memory; lost when the power fails.
- *   stable_log     the stable log. Kept when the power fails.
+ *   stable_log     the stable log. The host keeps a copy of it that outlasts a power failure.
  *   desk           136 bytes that the register fills and the caller keeps from call to call. Memory; lost when the power fails.
  *   values         8 bytes for the answer's two values.
  *
@@ -45,7 +45,9 @@
  * 0, or the number of the reason for which it is refused. `values` then holds two numbers of 32 bits, most significant byte first; each
  * is 0 where the call has no such answer, and both are 0 after a refusal. donzhikar_value reads them.
  *
- * A desk that is not 136 bytes long, or values that are not 8 bytes long: 1, and nothing at all is changed, `values` included.
+ * A desk that is not 136 bytes long, or values that are not 8 bytes long: 1, whatever else is wrong. The four areas stay, and so does the
+ * one of wrong length. The other is left as by any refusal: values of 8 bytes become zeros, a desk of 136 bytes stays, or becomes empty
+ * by format and restart.
  *
  *
  * THE REASONS, AND WHAT EACH LEAVES
@@ -64,7 +66,7 @@
  *       3 to 6: both working areas become zeros, the desk becomes empty, the stable areas stay as they were. If a power failure cut a
  *       format, format again. Otherwise the stable areas were damaged: keep them as they are; docs/SERVICE.md says what can be brought back.
  *   11  The working areas or the desk are not sound: not what calls leave. Every call but format and restart. Nothing changes.
- *       After a power failure this is the answer of every call until restart has run.
+ *       After a power failure this is the usual answer until restart has run, and not one to rely on: see COMING BACK.
  *   12  There is no such open batch. Fetch, next, insert, delete, commit, abort. Nothing changes.
  *   13  Eight batches are open. Begin. Nothing changes.
  *   14  The key is held by another open batch, which has inserted or deleted it. Fetch, insert, delete; and next, if another batch holds
@@ -106,7 +108,7 @@
  * WHAT THE HOST MUST GUARANTEE ABOUT STORES
  *
  * Only format, commit, write-out and restart write to the stable areas. One store is one page of 128 bytes at a multiple of 128 in
- * stable_pages, or one slot of 144 bytes at a multiple of 144 in stable_log. A call makes its stores one after the other, in this order:
+ * stable_pages, or one slot of 144 bytes at a multiple of 144 in stable_log. A call's stores are a list, in this order:
  *
  *   format      every page by rising number, then every slot by rising number
  *   commit      every record that is not yet stored, by rising number, the commit's own last
@@ -121,9 +123,12 @@
  *
  * A slot of 144 bytes starts at no multiple of 512 but every 32nd, so slots straddle sectors of a disk or a flash page: where the stable
  * areas are copied to such a device, a slot across two sectors is two writes, and the device alone does not give "whole or not at all".
- * The host then keeps a journal, or a checksum by which it takes back half a slot, or lends battery-backed memory, where the rule for each
- * store is kept otherwise. It is enough to write the changed parts out after each of the four calls, in the order above, before going on.
- * examples/host does so, in a file, and docs/DRIVE.md says how.
+ * The host then keeps a journal, or a checksum by which it takes back half a slot.
+ *
+ * The stable areas are ordinary memory, of which the host keeps a copy where it outlasts a power failure. What they show while a call
+ * runs is not promised: the compiler and the processor may order and join writes to memory. So memory with a battery is not lent itself;
+ * it holds the copy. It is enough to carry the changed parts out to the copy after each of the four calls, in the order above, before
+ * going on. examples/host does so, in a file, and docs/DRIVE.md says how.
  *
  *
  * MEMORY AND TIME
@@ -137,6 +142,9 @@
  * After a power failure, or at every start: bring the stable areas into memory, and restart. 0: go on. 17 or 18: lend longer areas, the
  * added part zero, and restart again. 3 to 6: stop, keep the stable areas as they are, and see docs/SERVICE.md. After 0 no batch is open,
  * whatever was: the cases that had not been committed are filed again from their beginning.
+ *
+ * The caller owes this restart before any other call. Memory that outlives the failure may show the working areas and the desk of an earlier
+ * moment, sound by themselves: a commit then returns 0, and its slides may be gone after the next restart. No call can tell.
  *
  *
  * AN EXAMPLE: files two cases of a slide each in a register of 16 pages and 128 slots, loses the power, comes back and lists the slides.

@@ -2,9 +2,18 @@
 #include "copy.h"
 #include <string.h>
 
-enum { MARK_AT = 0, PLACE_AT = 4, BYTES_AT = 8, SUM_AT = BYTES_AT + DRIVE_PLACE_BYTES };
+enum {
+    MARK_AT = 0,
+    PLACE_AT = 4,
+    BYTES_AT = 8,
+    GROUP_AT = BYTES_AT + DRIVE_PLACE_BYTES,
+    STORES_AT = GROUP_AT + 4,
+    SUM_AT = STORES_AT + 4,
+    UNGROUPED_SUM_AT = GROUP_AT,
+};
 
-static const uint8_t mark[4] = { 'D', 'z', 'k', '1' };
+/* Before there were groups a copy had the other mark, and its checksum after the bytes. */
+static const uint8_t mark[4] = { 'D', 'z', 'k', '2' }, ungrouped_mark[4] = { 'D', 'z', 'k', '1' };
 
 /* CRC-32, four bits at a time. A block that was being written when the power failed holds part of the old bytes and part of the new, or
  * anything at all: such a block passes once in four thousand million times. */
@@ -28,20 +37,40 @@ static void put_number(uint8_t *at, uint32_t number)
         at[i] = (uint8_t)(number >> (24 - 8 * i));
 }
 
-void copy_seal(uint8_t copy[COPY_BYTES], uint32_t place, const uint8_t bytes[DRIVE_PLACE_BYTES])
+static uint32_t number_at(const uint8_t *at)
+{
+    return (uint32_t)at[0] << 24 | (uint32_t)at[1] << 16 | (uint32_t)at[2] << 8 | at[3];
+}
+
+void copy_seal(uint8_t copy[COPY_BYTES], uint32_t place, struct copy_group group, const uint8_t bytes[DRIVE_PLACE_BYTES])
 {
     memcpy(copy + MARK_AT, mark, sizeof mark);
     put_number(copy + PLACE_AT, place);
     memcpy(copy + BYTES_AT, bytes, DRIVE_PLACE_BYTES);
+    put_number(copy + GROUP_AT, group.number);
+    put_number(copy + STORES_AT, group.stores);
     put_number(copy + SUM_AT, sum_of(copy, SUM_AT));
 }
 
-int copy_unseal(const uint8_t copy[COPY_BYTES], uint32_t place, uint8_t bytes[DRIVE_PLACE_BYTES])
+static int is_whole(const uint8_t copy[COPY_BYTES], uint32_t place, const uint8_t with_mark[4], size_t sum_at)
 {
-    uint8_t whole[COPY_BYTES];
-    copy_seal(whole, place, copy + BYTES_AT);
-    if (memcmp(whole, copy, COPY_BYTES) != 0)
+    if (memcmp(copy + MARK_AT, with_mark, sizeof mark) != 0 || number_at(copy + PLACE_AT) != place)
         return 0;
+    return number_at(copy + sum_at) == sum_of(copy, sum_at);
+}
+
+int copy_unseal(const uint8_t copy[COPY_BYTES], uint32_t place, struct copy_group *group, uint8_t bytes[DRIVE_PLACE_BYTES])
+{
+    struct copy_group none = { 0, 0 }, grouped = { number_at(copy + GROUP_AT), number_at(copy + STORES_AT) };
+    int is_grouped = is_whole(copy, place, mark, SUM_AT);
+    if (!is_grouped && !is_whole(copy, place, ungrouped_mark, UNGROUPED_SUM_AT))
+        return 0;
+    *group = is_grouped ? grouped : none;
     memcpy(bytes, copy + BYTES_AT, DRIVE_PLACE_BYTES);
     return 1;
+}
+
+int copy_is_ungrouped(const uint8_t copy[COPY_BYTES])
+{
+    return memcmp(copy + MARK_AT, ungrouped_mark, sizeof ungrouped_mark) == 0;
 }

@@ -9,7 +9,9 @@ static const struct sentence {
     [DRIVE_FIRST_DAMAGED] = { "the first copy is damaged; the second was taken", "the first copy was damaged and is repaired from the second" },
     [DRIVE_SECOND_DAMAGED] = { "the second copy is damaged; the first was taken", "the second copy was damaged and is repaired from the first" },
     [DRIVE_SECOND_BEHIND] = { "the second copy is behind; the first was taken", "the second copy was behind and is repaired from the first" },
+    [DRIVE_FIRST_AHEAD] = { "the first copy is ahead; the second was taken", "the first copy was ahead and is repaired from the second" },
     [DRIVE_BOTH_DAMAGED] = { "the first copy is damaged, and so is the second", "" },
+    [DRIVE_ONLY_AHEAD] = { "the first copy is ahead, and the second is damaged", "" },
 };
 
 /* Pages are counted from 0 and slots from 1, as records are. */
@@ -38,7 +40,7 @@ void damage_print(FILE *to, const struct image *im)
 void damage_ends(const struct image *im)
 {
     int place = 0;
-    while (place < PLACES && im->findings[place] != DRIVE_BOTH_DAMAGED)
+    while (place < PLACES && im->findings[place] < DRIVE_BOTH_DAMAGED)
         place++;
     if (place == PLACES)
         return;

@@ -1,7 +1,7 @@
 /* The drive's file: where the copies stand, and in which order they are written and flushed. */
 #define _GNU_SOURCE /* renameat2 */
 #include "drive.h"
-#include "copy.h"
+#include "group.h"
 #include <errno.h>
 #include <fcntl.h>
 #include <stdio.h>
@@ -12,7 +12,11 @@
 
 /* What may be damaged at once when the power fails during a write: the drive's sector or the system's page, whichever is larger. Each
  * copy has such a block to itself, so that writing it endangers no other. */
-enum { BLOCK_BYTES = 4096, COPIES = 2, NAME_BYTES = 4096 };
+enum { BLOCK_BYTES = 4096, NAME_BYTES = 4096 };
+
+/* First copies stand together, so many in a row, and then their second copies: those of neighbours, which a call's records are, are flushed
+ * in one piece. In files from before there were groups the two copies of each place stand together. */
+enum { STRIPE = 64, UNGROUPED_STRIPE = 1 };
 
 void drive_fail(const char *what)
 {
@@ -22,19 +26,19 @@ void drive_fail(const char *what)
 
 /* ---- one copy */
 
-static off_t copy_at(uint32_t place, int which)
+static off_t copy_at(uint32_t stripe, uint32_t place, int which)
 {
-    return ((off_t)place * COPIES + which) * BLOCK_BYTES;
+    return (((off_t)(place / stripe) * COPIES + which) * stripe + place % stripe) * BLOCK_BYTES;
 }
 
 /* Writes the whole block: a part of it would have to be read first, and after a power failure it may be unreadable. A system may write a
  * part only and say so, and where the disk is full it says so at the next try. */
-static void put_copy(struct drive *d, uint32_t place, int which, const uint8_t bytes[DRIVE_PLACE_BYTES])
+static void put_copy(struct drive *d, uint32_t place, int which, struct copy_group group, const uint8_t bytes[DRIVE_PLACE_BYTES])
 {
     uint8_t block[BLOCK_BYTES] = { 0 };
-    copy_seal(block, place, bytes);
+    copy_seal(block, place, group, bytes);
     for (size_t done = 0; done < sizeof block;) {
-        ssize_t wrote = pwrite(d->file, block + done, sizeof block - done, copy_at(place, which) + (off_t)done);
+        ssize_t wrote = pwrite(d->file, block + done, sizeof block - done, copy_at(STRIPE, place, which) + (off_t)done);
         if (wrote < 0 && errno != EINTR)
             drive_fail("write");
         done += wrote < 0 ? 0 : (size_t)wrote;
@@ -42,16 +46,27 @@ static void put_copy(struct drive *d, uint32_t place, int which, const uint8_t b
 }
 
 /* A copy that cannot be read is as good as one that is not whole: some drives answer so for a block that the power failed on. */
-static int get_copy(struct drive *d, uint32_t place, int which, uint8_t bytes[DRIVE_PLACE_BYTES])
+static int get_copy(struct drive *d, uint32_t place, int which, uint8_t copy[COPY_BYTES])
 {
-    uint8_t copy[COPY_BYTES];
-    for (size_t done = 0; done < sizeof copy;) {
-        ssize_t got = pread(d->found, copy + done, sizeof copy - done, copy_at(place, which) + (off_t)done);
+    off_t at = copy_at(d->found_stripe, place, which);
+    for (size_t done = 0; done < COPY_BYTES;) {
+        ssize_t got = pread(d->found, copy + done, COPY_BYTES - done, at + (off_t)done);
         if (got == 0 || (got < 0 && errno != EINTR))
             return 0;
         done += got < 0 ? 0 : (size_t)got;
     }
-    return copy_unseal(copy, place, bytes);
+    return 1;
+}
+
+/* The place that every drive has tells: its copies are the first two blocks of a file from before there were groups. */
+static void find_stripe(struct drive *d)
+{
+    uint8_t copy[COPY_BYTES];
+    d->found_stripe = UNGROUPED_STRIPE;
+    for (int which = 0; which < COPIES; which++)
+        if (get_copy(d, 0, which, copy) && copy_is_ungrouped(copy))
+            return;
+    d->found_stripe = STRIPE;
 }
 
 /* ---- places */
@@ -63,33 +78,32 @@ static void flush(struct drive *d)
         drive_fail("flush");
 }
 
-/* The first copy is written first, so where both are whole it is the newer one, and the store has happened. Where it is not whole, its
- * store has not happened: nobody was told of it, for that takes both copies. */
-enum drive_finding drive_read(struct drive *d, uint32_t place, uint8_t bytes[DRIVE_PLACE_BYTES])
+void drive_read(struct drive *d, uint32_t place, struct reading *to)
 {
-    uint8_t second[DRIVE_PLACE_BYTES];
-    int has_first = get_copy(d, place, 0, bytes), has_second = get_copy(d, place, 1, second);
-    if (has_first && has_second)
-        return memcmp(bytes, second, sizeof second) == 0 ? DRIVE_WHOLE : DRIVE_SECOND_BEHIND;
-    if (has_first)
-        return DRIVE_SECOND_DAMAGED;
-    if (!has_second)
-        return DRIVE_BOTH_DAMAGED;
-    memcpy(bytes, second, sizeof second);
-    return DRIVE_FIRST_DAMAGED;
+    uint8_t copy[COPY_BYTES];
+    for (int which = 0; which < COPIES; which++)
+        to->is_whole[which] = get_copy(d, place, which, copy) && copy_unseal(copy, place, &to->of[which], to->bytes[which]);
 }
 
 void drive_fill(struct drive *d, uint32_t place, const uint8_t bytes[DRIVE_PLACE_BYTES])
 {
-    put_copy(d, place, 0, bytes);
-    put_copy(d, place, 1, bytes);
+    const struct copy_group none = { 0, 0 };
+    put_copy(d, place, 0, none, bytes);
+    put_copy(d, place, 1, none, bytes);
 }
 
-void drive_store(struct drive *d, uint32_t place, const uint8_t bytes[DRIVE_PLACE_BYTES])
+static void put_copies(struct drive *d, int which, const struct drive_store *stores, struct copy_group group)
 {
-    put_copy(d, place, 0, bytes);
-    flush(d); /* before the other copy is touched */
-    put_copy(d, place, 1, bytes);
+    for (uint32_t i = 0; i < group.stores; i++)
+        put_copy(d, stores[i].place, which, group, stores[i].bytes);
+}
+
+void drive_store(struct drive *d, const struct drive_store *stores, uint32_t count)
+{
+    const struct copy_group group = { ++d->groups, count };
+    put_copies(d, 0, stores, group);
+    flush(d); /* before the other copies are touched */
+    put_copies(d, 1, stores, group);
     flush(d);
 }
 
@@ -171,13 +185,17 @@ int drive_open(struct drive *d, const char *path)
     struct stat appeared;
     name_before(name, path);
     d->path = path;
+    d->groups = 0;
     for (;;) {
         d->found = taken(path, O_RDWR);
         d->file = taken(name, O_RDWR | O_CREAT);
         if (d->found >= 0 || !is_there(path, &appeared))
-            return d->found >= 0;
+            break;
         close(d->file);
     }
+    if (d->found >= 0)
+        find_stripe(d);
+    return d->found >= 0;
 }
 
 void drive_look(struct drive *d, const char *path)
@@ -187,6 +205,7 @@ void drive_look(struct drive *d, const char *path)
     d->found = taken(path, O_RDONLY);
     if (d->found < 0)
         drive_fail(path);
+    find_stripe(d);
 }
 
 /* The drive that was found, and is locked, gives its name up. Where there was none, a name that is there by now is not replaced. */

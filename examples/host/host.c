@@ -81,7 +81,8 @@ uint32_t host_commit(struct host *h, uint32_t batch)
 uint32_t host_write_out(struct host *h, uint32_t page)
 {
     uint32_t reason = donzhikar_write_out(AREAS(h), page);
-    image_keep(&h->image);
+    if (reason == DONZHIKAR_DONE)
+        image_keep_page(&h->image, page);
     return reason;
 }
 

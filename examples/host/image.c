@@ -1,6 +1,7 @@
-/* The stable areas on a drive: which place has which page or slot, and a call's stores in order. */
+/* The stable areas on a drive: which place has which page or slot, and a call's stores. */
 #include "image.h"
 #include "damage.h"
+#include "group.h"
 #include <errno.h>
 #include <stdlib.h>
 #include <string.h>
@@ -31,9 +32,8 @@ static void lend(struct image *im, size_t pages, size_t slots)
     im->pages = pages;
     im->slots = slots;
     im->stable_pages = zeros(image_page_bytes(im));
-    im->kept_pages = zeros(image_page_bytes(im));
     im->stable_log = zeros(image_log_bytes(im));
-    im->kept_log = zeros(image_log_bytes(im));
+    im->stores = (struct drive_store *)zeros((pages + slots) * sizeof *im->stores);
 }
 
 /* ---- one page or slot */
@@ -48,76 +48,104 @@ static uint8_t *slot_of(uint8_t *log, size_t s)
     return log + s * DONZHIKAR_SLOT_BYTES;
 }
 
-/* Stores a part if the call changed it. To store what is there already would change nothing. */
-static void keep_part(struct image *im, size_t place, const uint8_t *part, uint8_t *kept, size_t length)
+static int has_record(const struct image *im, size_t s)
 {
-    uint8_t bytes[DRIVE_PLACE_BYTES] = { 0 };
-    if (memcmp(part, kept, length) == 0)
-        return;
-    memcpy(bytes, part, length);
-    drive_store(&im->drive, (uint32_t)place, bytes);
-    memcpy(kept, part, length);
+    static const uint8_t empty[DONZHIKAR_SLOT_BYTES];
+    return s < im->slots && memcmp(slot_of(im->stable_log, s), empty, sizeof empty) != 0;
 }
 
-static void fill_part(struct image *im, size_t place, const uint8_t *part, uint8_t *kept, size_t length)
+static void keep_part(struct image *im, size_t place, const uint8_t *part, size_t length)
+{
+    struct drive_store *store = &im->stores[im->store_count++];
+    *store = (struct drive_store){ .place = (uint32_t)place };
+    memcpy(store->bytes, part, length);
+}
+
+static void fill_part(struct image *im, size_t place, const uint8_t *part, size_t length)
 {
     uint8_t bytes[DRIVE_PLACE_BYTES] = { 0 };
     memcpy(bytes, part, length);
     drive_fill(&im->drive, (uint32_t)place, bytes);
-    memcpy(kept, part, length);
 }
 
-static void read_part(struct image *im, size_t place, uint8_t *part, size_t length)
+static void take_part(struct image *im, const struct last_group *last, const struct reading *readings, size_t place, uint8_t *part, size_t length)
 {
     uint8_t bytes[DRIVE_PLACE_BYTES] = { 0 };
-    im->findings[place] = (uint8_t)drive_read(&im->drive, (uint32_t)place, bytes);
+    im->findings[place] = (uint8_t)group_take(last, &readings[place], bytes);
     memcpy(part, bytes, length);
 }
 
 /* ---- all of them */
 
+/* Records are stored in empty slots, one after the other, and never changed. So no other slot is looked at: the log may be long. */
 static void keep_log(struct image *im)
 {
-    for (size_t s = 0; s < im->slots; s++) /* by rising number */
-        keep_part(im, SLOT_PLACE + s, slot_of(im->stable_log, s), slot_of(im->kept_log, s), DONZHIKAR_SLOT_BYTES);
+    for (; has_record(im, im->kept_slots); im->kept_slots++)
+        keep_part(im, SLOT_PLACE + im->kept_slots, slot_of(im->stable_log, im->kept_slots), DONZHIKAR_SLOT_BYTES);
 }
 
-static void keep_pages(struct image *im)
+static void keep_group(struct image *im)
 {
-    for (size_t p = 0; p < im->pages; p++)
-        keep_part(im, PAGE_PLACE + p, page_of(im->stable_pages, p), page_of(im->kept_pages, p), DONZHIKAR_PAGE_BYTES);
+    if (im->store_count > 0)
+        drive_store(&im->drive, im->stores, im->store_count);
+    im->store_count = 0;
 }
 
-/* A page must never be on the drive before the records that changed it. */
+/* No store of a call may be on the drive while an earlier one is not: no page before the records that changed it, no record before those of
+ * lower numbers. All are one group. */
 void image_keep(struct image *im)
 {
     keep_log(im);
-    keep_pages(im);
+    keep_group(im);
+}
+
+void image_keep_page(struct image *im, size_t page)
+{
+    keep_log(im); /* with the page */
+    keep_part(im, PAGE_PLACE + page, page_of(im->stable_pages, page), DONZHIKAR_PAGE_BYTES);
+    keep_group(im);
 }
 
 static void fill_all(struct image *im)
 {
     for (size_t p = 0; p < im->pages; p++)
-        fill_part(im, PAGE_PLACE + p, page_of(im->stable_pages, p), page_of(im->kept_pages, p), DONZHIKAR_PAGE_BYTES);
+        fill_part(im, PAGE_PLACE + p, page_of(im->stable_pages, p), DONZHIKAR_PAGE_BYTES);
     for (size_t s = 0; s < im->slots; s++)
-        fill_part(im, SLOT_PLACE + s, slot_of(im->stable_log, s), slot_of(im->kept_log, s), DONZHIKAR_SLOT_BYTES);
+        fill_part(im, SLOT_PLACE + s, slot_of(im->stable_log, s), DONZHIKAR_SLOT_BYTES);
+    while (has_record(im, im->kept_slots))
+        im->kept_slots++;
 }
 
-static void read_up_to(struct image *im, size_t pages, size_t slots)
+static void read_places(struct image *im, size_t first, size_t count, struct reading *readings, struct last_group *last)
 {
+    for (size_t place = first; place < first + count; place++) {
+        drive_read(&im->drive, (uint32_t)place, &readings[place]);
+        group_note(last, &readings[place]);
+    }
+}
+
+static void read_up_to(struct image *im, size_t pages, size_t slots, struct last_group *last)
+{
+    struct reading *readings = (struct reading *)zeros(PLACES * sizeof *readings);
+    read_places(im, PAGE_PLACE, pages, readings, last);
+    read_places(im, SLOT_PLACE, slots, readings, last);
     for (size_t p = 0; p < pages; p++)
-        read_part(im, PAGE_PLACE + p, page_of(im->stable_pages, p), DONZHIKAR_PAGE_BYTES);
+        take_part(im, last, readings, PAGE_PLACE + p, page_of(im->stable_pages, p), DONZHIKAR_PAGE_BYTES);
     for (size_t s = 0; s < slots; s++)
-        read_part(im, SLOT_PLACE + s, slot_of(im->stable_log, s), DONZHIKAR_SLOT_BYTES);
+        take_part(im, last, readings, SLOT_PLACE + s, slot_of(im->stable_log, s), DONZHIKAR_SLOT_BYTES);
+    free(readings);
 }
 
 /* ---- the drive */
 
-/* How many pages and slots a drive has. Without the counts nothing else is looked for. */
+/* How many pages and slots a drive has. Without the counts nothing else is looked for. They are of no group. */
 static void read_counts(struct image *im, size_t *pages, size_t *slots)
 {
     uint8_t counts[8];
-    read_part(im, COUNTS_PLACE, counts, sizeof counts);
+    struct reading reading;
+    const struct last_group none = { .found = 0 };
+    drive_read(&im->drive, COUNTS_PLACE, &reading);
+    take_part(im, &none, &reading, COUNTS_PLACE, counts, sizeof counts);
     damage_ends(im);
     *pages = donzhikar_value(counts, 0);
     *slots = donzhikar_value(counts, 1);
@@ -130,10 +158,15 @@ static void read_counts(struct image *im, size_t *pages, size_t *slots)
 static void read_all(struct image *im, size_t pages, size_t slots)
 {
     size_t had_pages, had_slots;
+    struct last_group last = { .found = 0 };
     read_counts(im, &had_pages, &had_slots);
     lend(im, pages > had_pages ? pages : had_pages, slots > had_slots ? slots : had_slots);
-    read_up_to(im, had_pages, had_slots);
+    read_up_to(im, had_pages, had_slots, &last);
     damage_ends(im);
+    if (group_lacks_stores(&last)) {
+        errno = EIO;
+        drive_fail("of the last call's stores some are not there");
+    }
 }
 
 int image_open(struct image *im, const char *path, size_t pages, size_t slots)
@@ -168,7 +201,6 @@ void image_close(struct image *im)
 {
     drive_close(&im->drive);
     free(im->stable_pages);
-    free(im->kept_pages);
     free(im->stable_log);
-    free(im->kept_log);
+    free(im->stores);
 }

@@ -19,7 +19,9 @@ struct image {
     int is_renewed;           /* so all of it is whole now */
     size_t pages, slots;
     uint8_t *stable_pages, *stable_log;
-    uint8_t *kept_pages, *kept_log; /* what the drive holds, by which a call's stores are found */
+    size_t kept_slots;          /* how many slots the drive holds full: calls store in those after them, by rising number */
+    struct drive_store *stores; /* those of the last call */
+    uint32_t store_count;
 };
 
 size_t image_page_bytes(const struct image *im);
@@ -30,7 +32,7 @@ uint8_t *zeros(size_t length);
 
 /* Reads the stable areas from the drive of this name. Where it has fewer pages or slots than asked for, zeros are added. Returns 0, with
  * areas of zeros, where there is no such drive. Nothing is relied on before image_renew: what is read may not stay.
- * Where both copies of a place are damaged the program ends with status 2, and says which. */
+ * Where a place has no copy that can be taken the program ends with status 2, and says which. */
 int image_open(struct image *im, const char *path, size_t pages, size_t slots);
 
 /* The same for a drive that is there, and stays as it is: neither image_renew nor image_keep may follow. */
@@ -39,8 +41,9 @@ void image_look(struct image *im, const char *path, size_t pages, size_t slots);
 /* Writes the stable areas out anew, as they stand in memory: all of them, or the drive is as it was found. From then on they stay. */
 void image_renew(struct image *im);
 
-/* Stores what the last call changed, in the order in which commit, write-out and restart store: records by rising number, then the page. */
+/* Stores what the last call did, all of it or nothing: the new records, and of a write-out that is done the page too. */
 void image_keep(struct image *im);
+void image_keep_page(struct image *im, size_t page);
 
 void image_close(struct image *im);
 

@@ -212,28 +212,39 @@ static void console(void)
     give_back(&in);
 }
 
-/* Every length of the desk and the values but the right one is refused by 1, and nothing changes. */
+/* Whether n bytes are what a refusal leaves of sevens: zeros in the first `zeroed`, and sevens after them. */
+static int left(const uint8_t *bytes, size_t n, size_t zeroed)
+{
+    for (size_t i = 0; i < n; i++)
+        if (bytes[i] != (i < zeroed ? 0 : 7))
+            return 0;
+    return 1;
+}
+
+/* Every length of the desk and the values but the right one is refused by 1. Values of 8 bytes become zeros, and by restart a desk of 136. */
 static void wrong_lengths(void)
 {
     struct instrument in = formatted(16, 64);
     uint8_t desk[DONZHIKAR_DESK_BYTES + 1], values[DONZHIKAR_VALUES_BYTES + 1];
     struct area *a = in.areas;
-    unsigned refused = 0, changed = 0;
-    memset(desk, 7, sizeof desk);
-    memset(values, 7, sizeof values);
+    unsigned refused = 0, right = 0;
     for (size_t d = 0; d <= sizeof desk; d++) {
         for (size_t v = 0; v <= sizeof values; v++) {
+            const size_t zeroed = v == DONZHIKAR_VALUES_BYTES ? v : 0;
             if (d == DONZHIKAR_DESK_BYTES && v == DONZHIKAR_VALUES_BYTES)
                 continue;
+            memset(desk, 7, sizeof desk);
+            memset(values, 7, sizeof values);
+            refused += donzhikar_begin(a[WORK_PAGES].bytes, a[WORK_PAGES].length, a[STABLE_PAGES].bytes, a[STABLE_PAGES].length,
+                           a[WORK_LOG].bytes, a[WORK_LOG].length, a[STABLE_LOG].bytes, a[STABLE_LOG].length, desk, d, values, v) == 1;
+            right += left(desk, sizeof desk, 0) && left(values, sizeof values, zeroed);
+            memset(values, 7, sizeof values);
             refused += donzhikar_restart(a[WORK_PAGES].bytes, a[WORK_PAGES].length, a[STABLE_PAGES].bytes, a[STABLE_PAGES].length,
                            a[WORK_LOG].bytes, a[WORK_LOG].length, a[STABLE_LOG].bytes, a[STABLE_LOG].length, desk, d, values, v) == 1;
+            right += left(desk, sizeof desk, d == DONZHIKAR_DESK_BYTES ? d : 0) && left(values, sizeof values, zeroed);
         }
     }
-    for (size_t i = 0; i < sizeof desk; i++)
-        changed += desk[i] != 7;
-    for (size_t i = 0; i < sizeof values; i++)
-        changed += values[i] != 7;
-    printf(", refused by 1: %u of %u, bytes changed: %u", refused, 138 * 10 - 1, changed);
+    printf(", refused by 1: %u of %u, left as they must be: %u", refused, 2 * (138 * 10 - 1), right);
     give_back(&in);
 }
 

@@ -40,6 +40,8 @@ struct fault {
     uint32_t least_level, least_pending, least_written;
     /* Only where the call has just found room: no slot, or no free page, more than it asks for. */
     enum { ANY_ROOM, EXACT_SLOTS, EXACT_PAGES } room;
+    /* Only where the last record of the stable log is to be redone, and refusal 5 goes by entries that are out of order, or by none. */
+    enum { ANY_RECORD, KEY_PASSED_BY, MOVED_OUT_OF_ORDER, MERGE_OF_NONE } last;
 };
 
 #define ALWAYS .least_pages = 0
@@ -83,6 +85,9 @@ static const struct fault faults[] = {
     {"insert-refused-in-exact-room", 'I', 0, ANSWERS, 17, .room = EXACT_SLOTS},
     {"delete-refused-in-exact-room", 'D', 0, ANSWERS, 17, .room = EXACT_SLOTS},
     {"insert-refused-with-exact-pages", 'I', 0, ANSWERS, 18, .room = EXACT_PAGES},
+    {"key-passed-by-is-inserted", 'R', 5, ANSWERS, 6, .last = KEY_PASSED_BY},
+    {"entries-moved-out-of-order", 'R', 5, ANSWERS, 6, .last = MOVED_OUT_OF_ORDER},
+    {"merge-of-none-is-refused", 'R', 0, ANSWERS, 5, .last = MERGE_OF_NONE},
     {"redo-counted-by-14-bits", 'R', 0, CUTS, 0, ALWAYS},
     {"fetch-reads-after-the-log", 'F', 0, READS_AFTER, WORK_LOG, ALWAYS},
     {"restart-reads-before-the-pages", 'R', 0, READS_BEFORE, STABLE_PAGES, ALWAYS},
@@ -145,6 +150,72 @@ static int room_is(const struct fault *f, const struct part parts[PARTS])
     return f->room == ANY_ROOM || free_pages(&parts[WORK_PAGES]) == 7 + 7 * pending;
 }
 
+enum { PAGE_BYTES = 128, PAGE_ENTRIES = 16, RECORD_BYTES = 144, RECORD_ENTRIES = 32, ENTRY_BYTES = 8, MOST_ENTRIES = 14 };
+enum { INSERT = 2, UNDO_DELETE = 5, MERGE = 12, REDISTRIBUTE = 13 };
+
+/* The keys of a page's or a record's entries, as far as the count says. */
+struct keys {
+    const uint8_t *entries;
+    uint32_t count;
+};
+
+static uint32_t key_at(struct keys keys, uint32_t place)
+{
+    return number_at(keys.entries + place * ENTRY_BYTES);
+}
+
+static struct keys keys_of_page(const uint8_t *page)
+{
+    return (struct keys){page + PAGE_ENTRIES, (uint32_t)((page[0] & 3) << 2 | page[1] >> 6)};
+}
+
+/* Whether the key is there, and the first entry that is not below it is another one. */
+static int passed_by(struct keys keys, uint32_t key)
+{
+    uint32_t place = 0, met;
+    while (place < keys.count && key_at(keys, place) < key)
+        place++;
+    met = place;
+    while (place < keys.count && key_at(keys, place) != key)
+        place++;
+    return place < keys.count && place != met;
+}
+
+/* Whether the left entries end above the first of the right ones, or with its key, and one page has room for all. */
+static int out_of_order(struct keys left, struct keys right)
+{
+    return left.count > 0 && right.count > 0 && left.count + right.count <= MOST_ENTRIES
+        && key_at(left, left.count - 1) >= key_at(right, 0);
+}
+
+static const uint8_t *last_record(const struct part *log)
+{
+    const uint8_t *last = NULL;
+    for (size_t at = 0; at < log->length && log->bytes[at] >> 4 != 0; at += RECORD_BYTES)
+        last = log->bytes + at;
+    return last;
+}
+
+/* By the page that the last record changes: A, or B where a redistribution moves entries above its key. */
+static int last_is(const struct fault *f, const struct part parts[PARTS])
+{
+    const uint8_t *record = f->last == ANY_RECORD ? NULL : last_record(&parts[STABLE_LOG]);
+    if (record == NULL)
+        return f->last == ANY_RECORD;
+    uint32_t kind = record[0] >> 4, key = number_at(record + 20), named = number_at(record + 16);
+    struct keys moved = {record + RECORD_ENTRIES, record[0] & 15};
+    int into_b = kind == REDISTRIBUTE && moved.count > 0 && key_at(moved, 0) > key;
+    const uint8_t *page = parts[STABLE_PAGES].bytes + (into_b ? named >> 12 & 1023 : named >> 22) * PAGE_BYTES;
+    struct keys keys = keys_of_page(page);
+    if (number_at(page + 8) >= number_at(record + 4))
+        return 0;
+    if (f->last == KEY_PASSED_BY)
+        return (kind == INSERT || kind == UNDO_DELETE) && keys.count < MOST_ENTRIES && passed_by(keys, key);
+    if (f->last == MOVED_OUT_OF_ORDER)
+        return kind == REDISTRIBUTE && (into_b ? out_of_order(moved, keys) : out_of_order(keys, moved));
+    return kind == MERGE && moved.count == 0 && keys.count > 0;
+}
+
 /* Whether the register is one that the fault is about. A page's level is in the third to sixth bit of its first byte; the root is page 1. */
 static int concerns(const struct fault *f, char letter, const struct part parts[PARTS])
 {
@@ -200,7 +271,7 @@ static uint32_t spoiled(char letter, uint32_t reason, const struct part parts[PA
     const struct fault *f = fault();
     if (shares(letter, &parts[WORK_PAGES]))
         memcpy(parts[WORK_PAGES].bytes, shared, parts[WORK_PAGES].length);
-    if (!concerns(f, letter, parts) || f->when != reason || !room_is(f, parts))
+    if (!concerns(f, letter, parts) || f->when != reason || !room_is(f, parts) || !last_is(f, parts))
         return reason;
     if (f->deed == ANSWERS)
         return f->with;

@@ -13,6 +13,8 @@ from plug.trials import BLOCK, Register
 PAGES, SLOTS = 16, 128
 FIRST_SLOT = 897
 PLACES = (*range(1 + PAGES), *range(FIRST_SLOT, FIRST_SLOT + SLOTS))
+CONTENT, STRIPE = 144, 64
+NEXT_SLOT, LATER = FIRST_SLOT + 5, 9  # the first slot that MADE leaves empty, and a group after all of its own
 EDGES = (0, 1, PAGES, FIRST_SLOT, FIRST_SLOT + SLOTS - 1)
 COPIES = ('first', 'second')
 MADE = ['open 1', f'file 1 5 {CASE}', 'commit 1', 'open 2', f'file 2 6 {2 * CASE}', 'write-out 0']  # so a restart ends a batch, redoes, and stores
@@ -34,12 +36,21 @@ def as_found(place, which, how='damaged'):
     return f'{name_of(place)}the {COPIES[which]} copy is {how}; the {COPIES[1 - which]} was taken'
 
 
-def repaired(place, which):
-    return f'{name_of(place)}the {COPIES[which]} copy was damaged and is repaired from the {COPIES[1 - which]}'
+def repaired(place, which, how='damaged'):
+    return f'{name_of(place)}the {COPIES[which]} copy was {how} and is repaired from the {COPIES[1 - which]}'
+
+
+def sealed(place, content, group=0, stores=0):
+    """A block of a copy of this group, which has so many stores."""
+    return summed(b'Dzk2' + place.to_bytes(4, 'big') + content + group.to_bytes(4, 'big') + stores.to_bytes(4, 'big'))
+
+
+def summed(copy):
+    return (copy + zlib.crc32(copy).to_bytes(4, 'big')).ljust(BLOCK, b'\0')
 
 
 def at(place, which):
-    return (2 * place + which) * BLOCK
+    return ((place // STRIPE * 2 + which) * STRIPE + place % STRIPE) * BLOCK
 
 
 class Scene(Register):
@@ -142,20 +153,47 @@ def behind(scene):
     scene.put(scene.made)
     place = FIRST_SLOT + 1
     older = scene.block(place, 1)
-    empty = b'Dzk1' + place.to_bytes(4, 'big') + bytes(144)
-    scene.set_block(place, 1, (empty + zlib.crc32(empty).to_bytes(4, 'big')).ljust(BLOCK, b'\0'))
+    scene.set_block(place, 1, sealed(place, bytes(CONTENT)))
     wanted = (0, ['start: 0 1 2', as_found(place, 1, 'behind'), *CHECKED], [])
     yield 'a second copy is behind', unless(scene.look(['check']), wanted) or unless(scene.block(place, 0), older)
+
+
+def cut(scene):
+    """A group of two stores of which one is there, in the first copy or in both."""
+    scene.put(scene.made)
+    scene.set_block(NEXT_SLOT, 0, sealed(NEXT_SLOT, b'x' * CONTENT, LATER, 2))
+    wanted = (0, ['start: 0 1 2', as_found(NEXT_SLOT, 0, 'ahead'), *CHECKED], [])
+    yield 'half of a group, looked at', unless(scene.look(['check']), wanted)
+    line = repaired(NEXT_SLOT, 0, 'ahead')
+    yield 'half of a group', unless(scene.start(['check']), (0, ['start: 0 1 2', line, *CHECKED], [line])) or scene.unless_it_holds(scene.restarted)
+    scene.put(scene.made)
+    scene.set_block(NEXT_SLOT, 0, sealed(NEXT_SLOT, b'x' * CONTENT, LATER, 2))
+    scene.damage(NEXT_SLOT, 1)
+    wanted = (GAVE_UP, [], [f'{name_of(NEXT_SLOT)}the first copy is ahead, and the second is damaged', LOST])
+    yield 'half of a group, without the copy from before', unless(scene.look(['check']), wanted)
+    for which in (0, 1):
+        scene.set_block(NEXT_SLOT, which, sealed(NEXT_SLOT, b'x' * CONTENT, LATER, 2))
+    wanted = (GAVE_UP, [], ["drive: of the last call's stores some are not there: Input/output error"])
+    yield 'a group that lost a store', unless(scene.look(['check']), wanted)
+
+
+def ungrouped(scene):
+    """A file from before there were groups, where the two copies of a place stand together."""
+    scene.put(scene.made)
+    blocks = {place: summed(b'Dzk1' + scene.block(place, 0)[4 : 8 + CONTENT]) for place in PLACES}
+    scene.put([(2 * place * BLOCK, 2 * block) for place, block in blocks.items()])
+    yield 'an older file, looked at', unless(scene.look(['check']), (0, ['start: 0 1 2', *CHECKED], []))
+    wrong = unless(scene.start(['check']), (0, ['start: 0 1 2', *CHECKED], [])) or scene.unless_it_holds(scene.restarted)
+    yield 'an older file', wrong
 
 
 def refused(scene):
     """A page whose copies are whole and whose own number is not its own: restart's 3."""
     scene.put(scene.made)
     for which in (0, 1):
-        copy = bytearray(scene.block(2, which))
-        copy[8 + 15] ^= 1
-        copy[152:156] = zlib.crc32(copy[:152]).to_bytes(4, 'big')
-        scene.set_block(2, which, bytes(copy))
+        content = bytearray(scene.block(2, which)[8 : 8 + CONTENT])
+        content[15] ^= 1
+        scene.set_block(2, which, sealed(2, content))
     wanted = (1, ['start: 3', 'restart: 3, a stored page is damaged', 'check: 3', 'list: 3'], [])
     yield 'a restart that is refused', unless(scene.look(['check', 'list']), wanted)
 
@@ -208,5 +246,5 @@ def others(scene):
 def looking(host, folder):
     """Gives for each try what is wrong, or None."""
     scene = Scene(host, folder)
-    for tries in (commands, unwritable, others, refused, behind, pairs, many_copies, each_copy):
+    for tries in (commands, unwritable, others, refused, behind, cut, ungrouped, pairs, many_copies, each_copy):
         yield from tries(scene)

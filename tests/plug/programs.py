@@ -7,7 +7,7 @@ ROOT = os.path.dirname(os.path.dirname(os.path.dirname(os.path.abspath(__file__)
 WRAPPED = ('open', 'close', 'fcntl', 'fstat', 'lstat', 'pread', 'pwrite', 'fdatasync', 'fsync', 'renameat2', 'unlink')
 SIDES = ('pieces', 'was', 'was.new', 'names', 'counts', 'steps')
 KINDS = ('flush', 'write', 'read', 'name', 'open')
-REPAIRED = re.compile(r'drive: .+ \(place \d+\): the (first|second) copy was (damaged|behind) and is repaired from the (first|second)')
+REPAIRED = re.compile(r'drive: .+ \(place \d+\): the (first|second) copy was (damaged|behind|ahead) and is repaired from the (first|second)')
 GAVE_UP = 2  # the host's status where its drive failed, or is another's
 
 

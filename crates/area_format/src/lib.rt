@@ -1,6 +1,7 @@
 // Formatting: the working areas become a register without slides and its empty log, which are then stored.
-use area_store::store_pages;
-use area_store::store_slots;
+use area_store::Span;
+use area_store::Stores;
+use area_store::store_first;
 use codec_bytes::zero;
 use codec_page::Page;
 use codec_page::write_at;
@@ -10,7 +11,7 @@ use def_layout::ROOM;
 use def_layout::SLOT_SIZE;
 ghost use mathlib.Core.Path.{_≡_};
 ghost use mathlib.Core.List.{[], map};
-ghost use Prim.Native.Nat.{_-_, _*_, _/_, _≤_, min};
+ghost use Prim.Native.Nat.{_*_, _/_, _≤_};
 ghost use lib.ListN.{length, replicate};
 ghost use Rattle.def_layout.specs.Sizes.{page-size, slot-size};
 ghost use Rattle.def_layout.specs.Entries.{top};
@@ -21,8 +22,8 @@ ghost use Rattle.def_model.specs.Calls.{formatted-pages};
 ghost use Rattle.def_model.specs.OnBytes.{pages-bytes, log-bytes};
 ghost use Rattle.codec_page.specs.Typed.{typed};
 ghost use Rattle.area_lengths.specs.Lent.{lent, Sized};
-ghost use Rattle.area_store.specs.Runs.{copied};
-ghost use Rattle.area_format.specs.Formatted.{Formatted};
+ghost use Rattle.area_store.specs.Lists.{Leads};
+ghost use Rattle.area_format.specs.Formatted.{Formatted, all-parts};
 
 // The map, which marks itself and the root.
 fn first_map() -> Page
@@ -81,11 +82,25 @@ fn format_work(wp: &mut [u8], wl: &mut [u8])
 // 01: "storing pages, then slots, in order".
 fn store_formatted(sp: &mut [u8], sl: &mut [u8], wp: &[u8], wl: &[u8], budget: usize)
     requires { ⌜ Sized (now wp) (now sp) (now wl) (now sl) ⌝ }
-    ensures { λ _. ⌜ (now (sp .exit) ≡ copied (now (sp .entry)) (now (wp .entry)) 0 (page-size * min budget (length (now (wp .entry)) / page-size)))
-        × (now (sl .exit) ≡ copied (now (sl .entry)) (now (wl .entry)) 0 (slot-size * min (budget - length (now (wp .entry)) / page-size) (length (now (wl .entry)) / slot-size))) ⌝ }
+    ensures { λ _.
+        ⌜ Leads (all-parts (length (now (wp .entry)) / page-size) (length (now (wl .entry)) / slot-size)) budget (now (wp .entry)) (now (wl .entry))
+        (lent (now (wp .entry)) (now (sp .entry)) (now (wl .entry)) (now (sl .entry))) (lent (now (wp .entry)) (now (sp .exit)) (now (wl .entry)) (now (sl .exit))) ⌝ }
 {
-    let left = store_pages(sp, wp, 0, wp.len() / PAGE_SIZE, budget);
-    store_slots(sl, wl, 0, wl.len() / SLOT_SIZE, left);
+    let pages = Span {
+        pages: true,
+        from: 0,
+        count: wp.len() / PAGE_SIZE,
+    };
+    let slots = Span {
+        pages: false,
+        from: 0,
+        count: wl.len() / SLOT_SIZE,
+    };
+    let list = Stores {
+        first: pages,
+        rest: slots,
+    };
+    store_first(sp, sl, wp, wl, list, budget);
 }
 
 // 01's format: the working areas, and of its stores as many as the budget lasts for.

@@ -1,4 +1,5 @@
-pub mod Runs
-pub mod Cut
-pub mod Stored
-pub mod WriteOut
+pub mod Lists
+pub mod Steps
+pub mod Parts
+pub mod Beside
+pub mod Unstored

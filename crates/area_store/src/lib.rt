@@ -1,73 +1,127 @@
 // Stores: working pages and slots copied to the stable areas, one store a step, while a budget of stores lasts.
 //
-// 01: "a call's stores are a run of one-store steps with a budget". Each run answers the budget that is left for the stores after it,
-// and each is said as one patch; the laws of `specs/` say that this is what the definitions' list of stores leaves.
+// 01: "a call's stores are a run of one-store steps with a budget". A call names its list of stores; `store_one` makes one store of a list
+// and no other, once those before it are made; `store_first` is the only loop over it.
 use codec_bytes::copy_part;
 use def_layout::PAGE_SIZE;
 use def_layout::SLOT_SIZE;
 ghost use mathlib.Core.Path.{_≡_};
-ghost use Prim.Native.Nat.{_+_, _-_, _*_, _≤_, min};
+ghost use mathlib.Core.List.{List};
+ghost use Prim.Native.Nat.{_+_, _*_, _≤_, _<_, min};
 ghost use lib.ListN.{length};
-ghost use Rattle.def_layout.specs.Sizes.{page-size, slot-size};
-ghost use Rattle.law_bytes.specs.Words.{part};
-ghost use Rattle.law_bytes.specs.Patch.{patch};
+ghost use Rattle.def_layout.specs.Sizes.{slot-size, most-slots};
+ghost use Rattle.def_model.specs.Areas.{Store};
+ghost use Rattle.def_model.specs.OnBytes.{store-bytes};
+ghost use Rattle.area_lengths.specs.Lent.{lent};
+ghost use Rattle.area_store.specs.Lists.{span-place, place, count, Fits, Lists, kth, Leads, Made};
+ghost use Rattle.area_store.specs.Beside.{SlotsLeft};
 
-// Of n parts of `width` bytes from byte `first` on, in order: one store a step.
-fn store_parts(
-    stable: &mut [u8],
-    work: &[u8],
-    first: usize,
-    width: usize,
-    n: usize,
-    budget: usize,
-) -> usize
-    requires { ⌜ (first + width * n ≤ length (now stable)) × (first + width * n ≤ length (now work)) ⌝ }
-    ensures { λ r. ⌜ (now (stable .exit) ≡ patch (now (stable .entry)) first (part (now (work .entry)) first (width * min budget n))) × (r ≡ budget - n) ⌝ }
+// Pages in a row, or slots: `count` of them from place `from` on, the first of an area being at place 0.
+pub struct Span {
+    pub pages: bool,
+    pub from: usize,
+    pub count: usize,
+}
+
+// A call's list of stores: those of one span in order, then those of another.
+pub struct Stores {
+    pub first: Span,
+    pub rest: Span,
+}
+
+// Where a store goes: to a page, or to a slot.
+pub enum Place {
+    Page(usize),
+    Slot(usize),
+}
+
+// Where the k-th store of a span goes, the first being the 0-th.
+fn place_in(s: Span, k: usize) -> Place
+    requires { ⌜ (k < s .count) × (s .from + s .count ≤ most-slots) ⌝ }
+    ensures { λ r. ⌜ r ≡ span-place s k ⌝ }
 {
-    let mut at = first;
-    let mut left = budget;
-    for i in 0..n {
-        if left == 0 {
-            return 0;
-        }
-        copy_part(stable, at, work, at, width);
-        at += width;
-        left -= 1;
+    if s.pages {
+        return Place::Page(s.from + k);
     }
-    left
+    Place::Slot(s.from + k)
 }
 
-// The slots from `from` up to `to`, the first being slot 0.
-pub fn store_slots(stable: &mut [u8], work: &[u8], from: usize, to: usize, budget: usize) -> usize
-    requires { ⌜ (from ≤ to) × (slot-size * to ≤ length (now stable)) × (slot-size * to ≤ length (now work)) ⌝ }
-    ensures { λ r. ⌜ (now (stable .exit) ≡ patch (now (stable .entry)) (slot-size * from) (part (now (work .entry)) (slot-size * from) (slot-size * min budget (to - from)))) × (r ≡ budget - (to - from)) ⌝ }
+// Where the k-th store of a list goes: in the first span while that lasts, then in the other.
+fn place_of(s: Stores, k: usize) -> Place
+    requires { ⌜ (k < count s) × (s .first .from + s .first .count ≤ most-slots) × (s .rest .from + s .rest .count ≤ most-slots) ⌝ }
+    ensures { λ r. ⌜ r ≡ place s k ⌝ }
 {
-    store_parts(stable, work, SLOT_SIZE * from, 144, to - from, budget)
+    let first = s.first;
+    if k < first.count {
+        return place_in(first, k);
+    }
+    let rest = s.rest;
+    place_in(rest, k - first.count)
 }
 
-// The pages from `from` up to `to`: "the 128-byte part of the stable area starting at that page is lent on and written".
-pub fn store_pages(stable: &mut [u8], work: &[u8], from: usize, to: usize, budget: usize) -> usize
-    requires { ⌜ (from ≤ to) × (page-size * to ≤ length (now stable)) × (page-size * to ≤ length (now work)) ⌝ }
-    ensures { λ r. ⌜ (now (stable .exit) ≡ patch (now (stable .entry)) (page-size * from) (part (now (work .entry)) (page-size * from) (page-size * min budget (to - from)))) × (r ≡ budget - (to - from)) ⌝ }
+// ONE STORE: the k-th of a list and no other, where the first k are made.
+fn store_one(sp: &mut [u8], sl: &mut [u8], wp: &[u8], wl: &[u8], s: Stores, k: usize)
+    requires { ⌜ (k < count s) × Fits s (now wp) (now sp) (now wl) (now sl) × Made s k (now wp) (now sp) (now wl) (now sl) ⌝ }
+    ensures { λ _.
+        ⌜ ((ts : List Store) → Lists (now (wp .entry)) (now (wl .entry)) s ts
+        → lent (now (wp .entry)) (now (sp .exit)) (now (wl .entry)) (now (sl .exit)) ≡ store-bytes (kth ts k) (lent (now (wp .entry)) (now (sp .entry)) (now (wl .entry)) (now (sl .entry)))) ⌝ }
 {
-    store_parts(stable, work, PAGE_SIZE * from, PAGE_SIZE, to - from, budget)
+    let at = place_of(s, k);
+    match at {
+        Place::Page(p) => {
+            let a = PAGE_SIZE * p;
+            copy_part(sp, a, wp, a, PAGE_SIZE);
+        }
+        Place::Slot(i) => {
+            let a = SLOT_SIZE * i;
+            copy_part(sl, a, wl, a, SLOT_SIZE);
+        }
+    }
 }
 
-// Of a write-out: the unstored records in order, then page p. A page never reaches the stable area before the records that changed it.
-pub fn store_all(
-    sp: &mut [u8],
-    sl: &mut [u8],
-    wp: &[u8],
-    wl: &[u8],
-    from: usize,
-    to: usize,
-    p: usize,
-    budget: usize,
-)
-    requires { ⌜ (from ≤ to) × (slot-size * to ≤ length (now sl)) × (slot-size * to ≤ length (now wl)) × (page-size * (p + 1) ≤ length (now sp)) × (page-size * (p + 1) ≤ length (now wp)) ⌝ }
-    ensures { λ _. ⌜ (now (sl .exit) ≡ patch (now (sl .entry)) (slot-size * from) (part (now (wl .entry)) (slot-size * from) (slot-size * min budget (to - from))))
-        × (now (sp .exit) ≡ patch (now (sp .entry)) (page-size * p) (part (now (wp .entry)) (page-size * p) (page-size * min (budget - (to - from)) 1))) ⌝ }
+// The smaller of two numbers.
+fn fewer(a: usize, b: usize) -> usize
+    ensures { λ r. ⌜ r ≡ min a b ⌝ }
 {
-    let left = store_slots(sl, wl, from, to, budget);
-    store_pages(sp, wp, p, p + 1, left);
+    if a < b {
+        return a;
+    }
+    b
+}
+
+// THE FIRST STORES of a list, in order: as many as the budget lasts for.
+pub fn store_first(sp: &mut [u8], sl: &mut [u8], wp: &[u8], wl: &[u8], s: Stores, budget: usize)
+    requires { ⌜ Fits s (now wp) (now sp) (now wl) (now sl) ⌝ }
+    ensures { λ _.
+        ⌜ Leads s budget (now (wp .entry)) (now (wl .entry)) (lent (now (wp .entry)) (now (sp .entry)) (now (wl .entry)) (now (sl .entry)))
+        (lent (now (wp .entry)) (now (sp .exit)) (now (wl .entry)) (now (sl .exit))) ⌝ }
+{
+    let n = fewer(budget, s.first.count + s.rest.count);
+    for k in 0..n {
+        store_one(sp, sl, wp, wl, s, k);
+    }
+}
+
+// Of a call that stores no page: the slots from `from` up to `to`. It lends no pages.
+pub fn store_slots(sl: &mut [u8], wl: &[u8], from: usize, to: usize, budget: usize)
+    requires { ⌜ (from ≤ to) × (to ≤ most-slots) × (slot-size * to ≤ length (now sl)) × (slot-size * to ≤ length (now wl)) ⌝ }
+    ensures { λ _. ⌜ SlotsLeft from to budget (now (wl .entry)) (now (sl .entry)) (now (sl .exit)) ⌝ }
+{
+    let mut stable = [0u8; 0];
+    let work = [0u8; 0];
+    let slots = Span {
+        pages: false,
+        from,
+        count: to - from,
+    };
+    let none = Span {
+        pages: true,
+        from: 0,
+        count: 0,
+    };
+    let list = Stores {
+        first: slots,
+        rest: none,
+    };
+    store_first(&mut stable, sl, &work, wl, list, budget);
 }

@@ -1,9 +1,9 @@
 -- Commit, abort and write-out, reply by reply.
 use mathlib.Core.Path.{_≡_, refl, ap, sym, _∙_, subst}
-use Prim.Native.Nat.{ℕ, _+_, _-_, _*_, _<_, _≤_, min}
+use Prim.Native.Nat.{ℕ, _+_, _-_, _*_, _<_, _≤_}
 use native.Mathlib.Omega.{arith}
 use mathlib.Core.Bool.{true, false}
-use mathlib.Core.List.{List, [], _∷_}
+use mathlib.Core.List.{List, [], _∷_, append-nil}
 use lib.ListN.{length, getD}
 use lib.Dec.{leb}
 use Rattle.def_base.specs.Tests.{lt-true, le-false, true-le, and-true}
@@ -11,7 +11,7 @@ use Rattle.def_layout.specs.declared.Desk.{Desk}
 use Rattle.def_layout.specs.Desks.{row-at}
 use Rattle.def_layout.specs.Pages.{Page, at}
 use Rattle.def_layout.specs.PageBytes.{page-bytes}
-use Rattle.def_layout.specs.Sizes.{page-size, slot-size}
+use Rattle.def_layout.specs.Sizes.{page-size}
 use Rattle.def_layout.specs.Records as records
 use Rattle.def_layout.specs.Records.{batch-row}
 use Rattle.def_model.specs.declared.Refusal.the-variants.{NoBatch}
@@ -28,9 +28,10 @@ use Rattle.law_bytes.specs.Words.{part}
 use Rattle.law_areas.specs.Logs.{AllFit, log-filled}
 use Rattle.area_lengths.specs.Lent.{lent}
 use Rattle.theory_ledger.specs.Batching.{find-number}
-use Rattle.area_store.specs.Runs.{copied}
-use Rattle.area_store.specs.Stored.{page-part}
-use Rattle.area_store.specs.WriteOut.{records-stored, write-out-stored}
+use Rattle.area_store.specs.Lists.{Leads}
+use Rattle.area_store.specs.Parts.{page-part}
+use Rattle.area_store.specs.Beside.{SlotsLeft}
+use Rattle.area_store.specs.Unstored.{records-left, write-out-list}
 use Rattle.law_bytes.specs.DeskRows.{without}
 use Rattle.theory_desk.specs.Opened.{batch-at}
 use Rattle.theory_desk.specs.Places.{found-place}
@@ -99,19 +100,19 @@ module _ {n m : ℕ} {wp sp wl sl : List ℕ} {d : Desk} {st : Standing} (g : Gi
       unfolding s run-of read-areas
       goes = ap (λ t. t .stop) (emit-goes (batch-row records.commit b (row-at (d .rows) i .last)) (run-of (areas g)) refl (lt-true 0 (run-of (areas g) .room) (omega (arith, slot-kept, g .known .logged, given-slots g))))
 
-      pub commit-0 : (sl′ : List ℕ) → sl′ ≡ copied sl wl′ (slot-size * d .stored) (slot-size * min budget (u .logged - d .stored)) → d .stored ≤ u .logged → slot-size * u .logged ≤ length sl
+      pub commit-0 : (sl′ : List ℕ) → SlotsLeft (d .stored) (u .logged) budget wl′ sl sl′ → d .stored ≤ u .logged
           → r .answer ≡ Done → r .desk ≡ record { rows = without (d .rows) i; logged = u .logged; stored = u .logged } → Replies (commit b) (lent wp sp wl sl) d budget r (lent wp sp wl′ sl′)
       unfolding outcome run-of read-areas s
-      commit-0 sl′ copies fewer room a k =
+      commit-0 sl′ left fewer a k =
           let l = last-is g b i e h in
           let z = open-zero g b i e h in
           let len : length (s .log) ≡ u .logged = sh .logged in
-          let w = records-stored m (d .stored) budget (s .log) wl′ (lent wp sp wl sl) (log-filled m (s .log) (sh .log) (sh .size)) (omega (arith, len)) (omega (arith, len)) in
+          let w = records-left m (d .stored) budget (s .log) wl′ (log-filled m (s .log) (sh .log) (sh .size)) (omega (arith, len)) _ (append-nil _) (u .logged) (sym len) wp sp wl sl sl′ left in
           left-stored (commit b) wp sp wl sl d (g .lengths) Done budget s [] r sp sl′ (given-slots g) (commit-goes (areas g) d (g .is-sound) b alive ∙ rw (← l)) sh a
           (k ∙ ap (λ (j : ℕ). record { rows = without (d .rows) i; logged = u .logged; stored = j }) (sym len)
           ∙ sym (commit-desk (run-of (areas g)) d (given-chain g) (g .known .desk) b _ i (u .logged) (length (s .log)) (z .0) (z .1) h goes (sym len)))
-          (ap (λ (x : Lent). x .stable-pages) w)
-          (ap (λ (x : Lent). x .stable-log) w ∙ ap (λ (j : ℕ). copied sl wl′ (slot-size * d .stored) (slot-size * min budget (j - d .stored))) len ∙ sym copies)
+          (w .0)
+          (w .1)
 
     -- ABORT: never short of room.
     pub abort-0 : {wp′ wl′ : List ℕ} (u : run.Run) → Shows n m wp′ wl′ u (abort-run (batch-at (work-open (areas g)) i) (run-of (areas g))) → r .answer ≡ Done
@@ -129,19 +130,18 @@ module _ {n m : ℕ} {wp sp wl sl : List ℕ} {d : Desk} {st : Standing} (g : Gi
 
 module _ {n m : ℕ} {wp sp wl sl : List ℕ} {d : Desk} {st : Standing} (g : Given n m wp sp wl sl d st) (p budget : ℕ) (r : Reply) (few : p < n) where
   -- WRITE-OUT: all that is unstored, and then page p.
-  pub write-out-0 : (sp′ sl′ : List ℕ) → sl′ ≡ copied sl wl (slot-size * d .stored) (slot-size * min budget (d .logged - d .stored))
-      → sp′ ≡ copied sp wp (page-size * p) (page-size * min (budget - (d .logged - d .stored)) 1) → slot-size * d .logged ≤ length sl
+  pub write-out-0 : (sp′ sl′ : List ℕ) → Leads (record { first = record { pages = false; from = d .stored; count = d .logged - d .stored }; rest = record { pages = true; from = p; count = 1 } }) budget wp wl (lent wp sp wl sl) (lent wp sp′ wl sl′)
       → r .answer ≡ Done → r .desk ≡ record { rows = d .rows; logged = d .logged; stored = d .logged } → Replies (write-out p) (lent wp sp wl sl) d budget r (lent wp sp′ wl sl′)
   unfolding outcome run-of read-areas desk-of
-  write-out-0 sp′ sl′ cl cp room a k =
+  write-out-0 sp′ sl′ stored a k =
       let log = work-log (areas g) in
       let x = at (work-pages (areas g)) p in
-      let len : length log ≡ d .logged = sym (g .known .logged) in
+      let len : d .logged - d .stored ≡ length log - d .stored = ap (λ (j : ℕ). j - d .stored) (g .known .logged) in
       let sh = g .known .shows sp in
       let there : part wp (page-size * p) page-size ≡ page-bytes x = page-there (g .known .pages) p few in
-      let w = write-out-stored m (d .stored) budget log wl (lent wp sp wl sl) (log-filled m log (sh .log) (sh .size)) (g .known .stored) (omega (arith, len)) wp p x there in
+      let w = sym (stored _ (write-out-list m (d .stored) budget log wl (log-filled m log (sh .log) (sh .size)) (g .known .stored) wp p x there (d .logged - d .stored) len)) in
       left-stored (write-out p) wp sp wl sl d (g .lengths) Done budget (run-of (areas g)) (store-page p x ∷ []) r sp′ sl′ (given-slots g)
       (write-out-goes (areas g) d (g .is-sound) p (le-false _ _ (subst (λ (j : ℕ). p < j) (sym (given-pages g)) few))) sh a
       (k ∙ ap (λ (j : ℕ). record { rows = d .rows; logged = j; stored = j }) (g .known .logged) ∙ ap (λ (q : Desk). record { rows = q .rows; logged = length log; stored = length log }) (g .known .desk))
-      (ap (λ (q : Lent). q .stable-pages) w ∙ ap (λ (j : ℕ). copied sp wp (page-size * p) (page-size * min (budget - (j - d .stored)) 1)) len ∙ sym cp)
-      (ap (λ (q : Lent). q .stable-log) w ∙ ap (λ (j : ℕ). copied sl wl (slot-size * d .stored) (slot-size * min budget (j - d .stored))) len ∙ sym cl)
+      (ap (λ (q : Lent). q .stable-pages) w)
+      (ap (λ (q : Lent). q .stable-log) w)

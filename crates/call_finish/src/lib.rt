@@ -1,5 +1,7 @@
 // The calls that end a batch, or store: commit, abort and write-out.
-use area_store::store_all;
+use area_store::Span;
+use area_store::Stores;
+use area_store::store_first;
 use area_store::store_slots;
 use call_reply::Reply;
 use call_reply::refused;
@@ -108,16 +110,21 @@ pub fn write_out_in(
         ⌜ ((st : Standing) → Given n m (now (wp .entry)) (now (sp .entry)) (now (wl .entry)) (now (sl .entry)) d st
         → Replies (calls.write-out p) (lent (now (wp .entry)) (now (sp .entry)) (now (wl .entry)) (now (sl .entry))) d budget r (lent (now (wp .entry)) (now (sp .exit)) (now (wl .entry)) (now (sl .exit)))) ⌝ }
 {
-    store_all(
-        sp,
-        sl,
-        wp,
-        wl,
-        d.stored as usize,
-        d.logged as usize,
-        p as usize,
-        budget,
-    );
+    let records = Span {
+        pages: false,
+        from: d.stored as usize,
+        count: (d.logged - d.stored) as usize,
+    };
+    let page = Span {
+        pages: true,
+        from: p as usize,
+        count: 1,
+    };
+    let list = Stores {
+        first: records,
+        rest: page,
+    };
+    store_first(sp, sl, wp, wl, list, budget);
     let logged = d.logged;
     Reply {
         answer: Answer::Done,

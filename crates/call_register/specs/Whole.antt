@@ -28,8 +28,8 @@ use Rattle.law_areas.specs.Logs.{read-log-length}
 use Rattle.law_areas.specs.Pages.{read-pages-length}
 use Rattle.law_areas.specs.Typed.{formatted-length}
 use Rattle.area_lengths.specs.Lent.{Sized, lengths-numbers}
-use Rattle.area_store.specs.Cut.{slot-stores-length, page-stores-length}
-use Rattle.area_store.specs.WriteOut.{log-stores-length}
+use Rattle.area_store.specs.Parts.{slot-stores-length, page-stores-length}
+use Rattle.area_store.specs.Unstored.{log-stores-length}
 use Rattle.theory_room.specs.Restarting.{restarted-within}
 use Rattle.call_reply.specs.declared.Reply.{Reply}
 use Rattle.call_reply.specs.Replies.{Replies}

@@ -1,5 +1,5 @@
 -- WHAT A RESTART REPLIES: refused, with zeros in the working areas; or done, with the records that it wrote stored by a budget.
-use Prim.Native.Nat.{ℕ, zero, suc, _-_, _*_, _/_, _≤_, min}
+use Prim.Native.Nat.{ℕ, zero, suc, _*_, _/_, _≤_}
 use mathlib.Core.Path.{_≡_, refl, sym, ap, ap₂, _∙_}
 use mathlib.Core.Bool.{true}
 use mathlib.Core.Option.{Option, none, some}
@@ -21,10 +21,9 @@ use Rattle.def_model.specs.Restart.{stable-log, stable-pages, stable-slots, res
 use Rattle.def_model.specs.OnBytes.{Lent, restart, outcome, lengths-ok, read-areas, store-all-bytes}
 use Rattle.law_areas.specs.Pages.{read-pages-length, zero-pages-bytes}
 use Rattle.law_areas.specs.Logs.{read-log-length, empty-bytes, log-filled}
-use Rattle.law_areas.specs.Stores.{with-log}
 use Rattle.area_lengths.specs.Lent.{lent, Sized, lengths-numbers}
-use Rattle.area_store.specs.Runs.{copied}
-use Rattle.area_store.specs.WriteOut.{log-stored}
+use Rattle.area_store.specs.Beside.{SlotsLeft}
+use Rattle.area_store.specs.Unstored.{records-left}
 use Rattle.tree_write.specs.declared.Run as run
 use Rattle.tree_write.specs.Shows.{Shows}
 use Rattle.call_reply.specs.declared.Reply.{Reply}
@@ -66,21 +65,18 @@ module _ (wp sp wl sl : List ℕ) (d : Desk) (lens : lengths-ok (lent wp sp wl s
   -- DONE: no check is broken, and the areas show the run after its batches are settled.
   module _ {n m : ℕ} {wp′ wl′ : List ℕ} (u : run.Run) (e : first-broken (restart-checks a) ≡ none) (f : stable-slots a ≡ m) (h : Shows n m wp′ wl′ u (restarted a)) where
     pub restart-done : (ended count old : ℕ) (sl′ : List ℕ) → ended ≡ length (open-batches (stable-log a)) → count ≡ redo-count 1 (stable-log a) (stable-pages a) → old ≡ length (stable-log a)
-        → old ≤ u .logged → slot-size * u .logged ≤ length sl → sl′ ≡ copied sl wl′ (slot-size * old) (slot-size * min budget (u .logged - old)) → r .answer ≡ Pair ended count
+        → old ≤ u .logged → SlotsLeft old (u .logged) budget wl′ sl sl′ → r .answer ≡ Pair ended count
         → r .desk ≡ record { rows = replicate 8 no-row; logged = u .logged; stored = u .logged }
         → Replies restart l d budget r (lent wp′ sp wl′ sl′)
     unfolding restart-by
-    restart-done ended count old sl′ ee ec eo fewer room stored y k =
+    restart-done ended count old sl′ ee ec eo fewer left y k =
         let log : List Rec = restarted a .log in
         let n : length log ≡ u .logged = h .logged in
-        let s : store-all-bytes (take budget (log-stores (length (stable-log a)) log)) l ≡ with-log l (copied sl wl′ (slot-size * length (stable-log a)) (slot-size * min budget (length log - length (stable-log a)))) =
-        log-stored m (length (stable-log a)) budget log wl′ l (log-filled m log (h .log) (h .size)) (omega arith) (omega arith) in
-        let t : copied sl wl′ (slot-size * length (stable-log a)) (slot-size * min budget (length log - length (stable-log a))) ≡ sl′ =
-        ap₂ (λ (i j : ℕ). copied sl wl′ (slot-size * i) (slot-size * min budget (j - i))) (sym eo) n ∙ sym stored in
+        let s = records-left m old budget log wl′ (log-filled m log (h .log) (h .size)) (omega arith) _ (ap (λ (i : ℕ). log-stores i log) (sym eo)) (u .logged) (sym n) wp sp wl sl sl′ left in
         by-outcome restart wp sp wl sl d lens (restart-by none a) budget r wp′ sp wl′ sl′ (by-first none e)
         (y ∙ ap₂ Pair ee ec)
         (k ∙ sym (ap (desk-of log) n ∙ restart-desk a (readable l lens) e (u .logged) (u .logged) (sym n)))
         (run-pages (stable-slots a) h)
         (run-log f h)
-        (ap (λ (x : Lent). x .stable-pages) s)
-        (ap (λ (x : Lent). x .stable-log) s ∙ t)
+        (s .0)
+        (s .1)

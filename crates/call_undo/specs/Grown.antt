@@ -48,8 +48,8 @@ module _ (l : List Rec) where
 
   grown-undo : (a : Bool) (n next : ℕ) (x : Line) (s : Run) → Grown l (s .log) → Grown l (undo-by a n next x s .log)
   unfolding undo-by put-record remove-record
-  grown-undo true n next x s g = grown-emit _ _ (keep-find-remove Grows (λ r q. grown-emit r) (λ t j. j) _ (x .key) s g)
-  grown-undo false n next x s g = grown-emit _ _ (keep-find-add Grows (λ r q. grown-emit r) (λ t j. j) (x .key) s g)
+  grown-undo true n next x s g = grown-emit _ _ (keep-find-remove Grows (λ r q. grown-emit r) (λ t z j. j) _ (x .key) s g)
+  grown-undo false n next x s g = grown-emit _ _ (keep-find-add Grows (λ r q. grown-emit r) (λ t z j. j) (x .key) s g)
 
   pub grown-line : (n next : ℕ) (x : Line) (s : Run) → Grown l (s .log) → Grown l (undo-line n next x s .log)
   unfolding undo-line

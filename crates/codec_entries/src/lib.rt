@@ -70,8 +70,15 @@ pub fn write_entries(b: &mut [u8], from: usize, es: [Entry; ROOM], n: usize)
     requires { ⌜ from + 112 ≤ length (now b) ⌝ }
     ensures { λ _. ⌜ now (b .exit) ≡ patch (now (b .entry)) from (entries-bytes (used n es)) ⌝ }
 {
-    for i in 0..ROOM {
-        write_entry(b, from + 8 * i, entry_in(es, n, i));
+    let mut i = 0;
+    while i < ROOM {
+        if i < n {
+            write_entry(b, from + 8 * i, es[i]);
+            i += 1;
+            continue;
+        }
+        write_entry(b, from + 8 * i, Entry { key: 0, val: 0 });
+        i += 1;
     }
 }
 

@@ -1,5 +1,6 @@
 // A page by value, read from and written to the 128 bytes where it stands.
 use codec_bytes::get32;
+use codec_bytes::is_zero;
 use codec_bytes::set32;
 use codec_entries::blank_from;
 use codec_entries::children_fit;
@@ -11,7 +12,8 @@ use def_layout::MOST_PAGES;
 use def_layout::PAGE_SIZE;
 use def_layout::ROOM;
 ghost use mathlib.Core.Path.{_≡_};
-ghost use Prim.Native.Nat.{_+_, _*_, _%_, _≤_, _<_};
+ghost use mathlib.Core.Bool.{true};
+ghost use Prim.Native.Nat.{ℕ, _+_, _*_, _/_, _%_, _≤_, _<_};
 ghost use lib.ListN.{length};
 ghost use Rattle.def_layout.specs.Sizes.{page-size, most-pages};
 ghost use Rattle.def_layout.specs.Pages.{at, zero-page, layout};
@@ -170,12 +172,27 @@ pub fn marked(es: [Entry; ROOM], p: usize) -> bool
     (map_word(es, p / 32) >> k) % 2 == 1
 }
 
+// Whether page i is the first of a word of 32 pages, none of which is marked.
+fn is_clear(es: [Entry; ROOM], i: usize) -> bool
+    requires { ⌜ i < most-pages ⌝ }
+    ensures { λ r. ⌜ (r ≡ true → (i % 32 ≡ 0) × (map-word es (i / 32) ≡ 0)) ⌝ }
+{
+    if i % 32 != 0 {
+        return false;
+    }
+    map_word(es, i / 32) == 0
+}
+
 // Whether no page from the n-th on is marked.
 pub fn unmarked_from(es: [Entry; ROOM], n: usize) -> bool
     ensures { λ r. ⌜ r ≡ unmarked-from n es ⌝ }
 {
     let mut i = n;
     while i < MOST_PAGES {
+        if is_clear(es, i) {
+            i += 32;
+            continue;
+        }
         if marked(es, i) {
             return false;
         }
@@ -291,12 +308,29 @@ fn unused_zero(x: Page) -> bool
     x.count == 0
 }
 
+// Whether page p, which is not the map's, was never used: all of it is zero. Its first word tells most others apart.
+fn is_never_used(b: &[u8], p: usize) -> bool
+    requires { ⌜ length (now b) ≡ page-size ⌝ }
+    ensures { λ r. ⌜ (r ≡ true → (n : ℕ) → block-ok n p (read-block (now (b .entry))) ≡ true) ⌝ }
+{
+    if p == 0 {
+        return false;
+    }
+    if get32(b, 0) != 0 {
+        return false;
+    }
+    is_zero(b)
+}
+
 // Refusal 3 finds nothing in the 128 bytes of page p of n.
 pub fn page_ok(b: &[u8], n: usize, p: usize) -> bool
     ensures { λ r. ⌜ r ≡ block-ok n p (read-block (now (b .entry))) ⌝ }
 {
     if b.len() != PAGE_SIZE {
         return false;
+    }
+    if is_never_used(b, p) {
+        return true;
     }
     if get32(b, 0) % 4096 != 0 {
         return false;

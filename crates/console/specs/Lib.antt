@@ -1,1 +1,4 @@
 pub mod Obeyed
+pub mod Session
+pub mod Hearing
+pub mod Hears

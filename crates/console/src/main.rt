@@ -9,17 +9,33 @@ use face_command::Line;
 use face_command::command_of;
 use face_command::new_line;
 use face_command::step;
+use face_text::LONGEST;
+use face_text::put_line;
 use libc::STDIN_FILENO;
 use libc::STDOUT_FILENO;
+ghost use mathlib.Core.Path.{_≡_};
+ghost use Prim.Native.Nat.{_+_, _*_, _≤_};
+ghost use lib.ListN.{length};
+ghost use Rattle.io.specs.Counts.{Counts};
 ghost use Rattle.def_layout.specs.Desks.{empty-desk};
 ghost use Rattle.area_lengths.specs.Lent.{lent};
 ghost use Rattle.face_command.specs.declared.Command.the-variants.{Cut};
+ghost use Rattle.face_command.specs.Lines.{start};
 ghost use Rattle.console.specs.Obeyed.{Obeyed};
+ghost use Rattle.console.specs.Session.{formatted};
+ghost use Rattle.console.specs.Hearing.{listening, hear-line, hear-byte, hear, hear-end};
+ghost use Rattle.console.specs.Hears.{stands, Hears};
 
-// What the console knows between two bytes: the line so far, the desk, and whether there may be more to read.
+// Bytes that are read at once, and what may have to be printed for them: each may end a line.
+const READ: usize = 512;
+
+const PRINTED: usize = READ * LONGEST;
+
+// What the console knows between two bytes: the line so far, the desk, how many bytes are to be printed, and whether there may be more to read.
 struct Heard {
     line: Line,
     desk: Desk,
+    said: usize,
     more: bool,
 }
 
@@ -61,81 +77,60 @@ fn obey(wp: &mut [u8], sp: &mut [u8], wl: &mut [u8], sl: &mut [u8], d: Desk, c: 
     }
 }
 
-// 01's letter of a command; '?' of any other line.
-fn letter_of(c: Command) -> u8 {
-    match c {
-        Command::Begin => b'B',
-        Command::Insert { .. } => b'I',
-        Command::Delete { .. } => b'D',
-        Command::Fetch { .. } => b'F',
-        Command::Next { .. } => b'N',
-        Command::Commit { .. } => b'C',
-        Command::Abort { .. } => b'A',
-        Command::WriteOut { .. } => b'W',
-        Command::Cut => b'X',
-        Command::Other => b'?',
-    }
-}
-
-fn print_number(n: u32) {
-    io::write_all(STDOUT_FILENO, b" ");
-    io::print_decimal(STDOUT_FILENO, n as u64);
-}
-
-// 0 or the refusal, then any answers.
-fn print_answer(a: Answer) {
-    print_number(face_answers::reason_of(a));
-    match a {
-        Answer::Number(x) => print_number(x),
-        Answer::Pair(x, y) => {
-            print_number(x);
-            print_number(y);
-        }
-        _ => (),
-    }
-}
-
-// A whole line: carried out and answered.
-fn answer_line(
+// A whole line: carried out, and its answer put into `out`.
+fn hear_line(
     wp: &mut [u8],
     sp: &mut [u8],
     wl: &mut [u8],
     sl: &mut [u8],
-    d: Desk,
-    l: Line,
-) -> Desk {
-    let c = command_of(l);
-    let y = obey(wp, sp, wl, sl, d, c);
-    let x = letter_of(c);
-    let letter = [x];
-    io::write_all(STDOUT_FILENO, &letter);
-    let a = y.answer;
-    if x != b'?' {
-        print_answer(a);
-    }
-    io::write_all(STDOUT_FILENO, b"\n");
-    y.desk
-}
-
-// One byte: a line's end, or one more of the line.
-fn hear_byte(wp: &mut [u8], sp: &mut [u8], wl: &mut [u8], sl: &mut [u8], h: Heard, x: u8) -> Heard {
+    h: Heard,
+    out: &mut [u8],
+) -> Heard
+    requires { ⌜ h .said + 35 ≤ length (now out) ⌝ }
+    ensures { λ r. ⌜ (r .said ≤ h .said + 35) × Hears (hear-line (stands (lent (now (wp .entry)) (now (sp .entry)) (now (wl .entry)) (now (sl .entry))) h)) (lent (now (wp .exit)) (now (sp .exit)) (now (wl .exit)) (now (sl .exit))) r (now (out .entry)) (h .said) (now (out .exit)) ⌝ }
+{
     let l = h.line;
     let d = h.desk;
-    if x == b'\n' {
-        let e = answer_line(wp, sp, wl, sl, d, l);
-        return Heard {
-            line: new_line(),
-            desk: e,
-            more: true,
-        };
-    }
+    let c = command_of(l);
+    let y = obey(wp, sp, wl, sl, d, c);
+    let a = y.answer;
+    let e = y.desk;
+    let said = put_line(out, h.said, c, a);
     Heard {
-        line: step(l, x as u32),
-        desk: d,
+        line: new_line(),
+        desk: e,
+        said,
         more: true,
     }
 }
 
+// One byte: a line's end, or one more of the line.
+fn hear_byte(
+    wp: &mut [u8],
+    sp: &mut [u8],
+    wl: &mut [u8],
+    sl: &mut [u8],
+    h: Heard,
+    x: u8,
+    out: &mut [u8],
+) -> Heard
+    requires { ⌜ h .said + 35 ≤ length (now out) ⌝ }
+    ensures { λ r. ⌜ (r .said ≤ h .said + 35) × Hears (hear-byte x (stands (lent (now (wp .entry)) (now (sp .entry)) (now (wl .entry)) (now (sl .entry))) h)) (lent (now (wp .exit)) (now (sp .exit)) (now (wl .exit)) (now (sl .exit))) r (now (out .entry)) (h .said) (now (out .exit)) ⌝ }
+{
+    if x == b'\n' {
+        return hear_line(wp, sp, wl, sl, h, out);
+    }
+    let l = h.line;
+    let d = h.desk;
+    Heard {
+        line: step(l, x as u32),
+        desk: d,
+        said: h.said,
+        more: true,
+    }
+}
+
+// Many bytes, and all that is to be printed for them.
 fn hear_bytes(
     wp: &mut [u8],
     sp: &mut [u8],
@@ -143,29 +138,100 @@ fn hear_bytes(
     sl: &mut [u8],
     h: Heard,
     text: &[u8],
-) -> Heard {
-    let mut now = h;
+    out: &mut [u8],
+) -> Heard
+    requires { ⌜ 35 * length (now text) ≤ length (now out) ⌝ }
+    ensures { λ r. ⌜ Counts (r .said) (now (out .exit)) × Hears (hear (now (text .entry)) (stands (lent (now (wp .entry)) (now (sp .entry)) (now (wl .entry)) (now (sl .entry))) h)) (lent (now (wp .exit)) (now (sp .exit)) (now (wl .exit)) (now (sl .exit))) r (now (out .entry)) 0 (now (out .exit)) ⌝ }
+{
+    let l = h.line;
+    let d = h.desk;
+    let mut now = Heard {
+        line: l,
+        desk: d,
+        said: 0,
+        more: true,
+    };
     for i in 0..text.len() {
-        now = hear_byte(wp, sp, wl, sl, now, text[i]);
+        now = hear_byte(wp, sp, wl, sl, now, text[i], out);
     }
     now
 }
 
-// One read.
-fn hear_some(wp: &mut [u8], sp: &mut [u8], wl: &mut [u8], sl: &mut [u8], h: Heard) -> Heard {
+// The last line may have no end.
+fn end(
+    wp: &mut [u8],
+    sp: &mut [u8],
+    wl: &mut [u8],
+    sl: &mut [u8],
+    h: Heard,
+    out: &mut [u8],
+) -> Heard
+    requires { ⌜ 35 ≤ length (now out) ⌝ }
+    ensures { λ r. ⌜ Counts (r .said) (now (out .exit)) × Hears (hear-end (stands (lent (now (wp .entry)) (now (sp .entry)) (now (wl .entry)) (now (sl .entry))) h)) (lent (now (wp .exit)) (now (sp .exit)) (now (wl .exit)) (now (sl .exit))) r (now (out .entry)) 0 (now (out .exit)) ⌝ }
+{
     let l = h.line;
     let d = h.desk;
-    let mut text = io::buffer();
+    let last = Heard {
+        line: l,
+        desk: d,
+        said: 0,
+        more: false,
+    };
+    if l.place == 0 {
+        return last;
+    }
+    hear_line(wp, sp, wl, sl, last, out)
+}
+
+// A new register, and nothing read yet.
+fn begun(wp: &mut [u8], sp: &mut [u8], wl: &mut [u8], sl: &mut [u8]) -> Heard
+    ensures { λ r. ⌜ stands (lent (now (wp .exit)) (now (sp .exit)) (now (wl .exit)) (now (sl .exit))) r ≡ listening (formatted (lent (now (wp .entry)) (now (sp .entry)) (now (wl .entry)) (now (sl .entry)))) start ⌝ }
+{
+    let y = call_register::format(wp, sp, wl, sl, idle_desk(0));
+    let d = y.desk;
+    Heard {
+        line: new_line(),
+        desk: d,
+        said: 0,
+        more: true,
+    }
+}
+
+// What was read is heard, and what is to be printed for it is written.
+fn hear_read(
+    wp: &mut [u8],
+    sp: &mut [u8],
+    wl: &mut [u8],
+    sl: &mut [u8],
+    h: Heard,
+    text: &[u8],
+) -> Heard
+    requires { ⌜ length (now text) ≤ 512 ⌝ }
+    ensures { λ r. ⌜ stands (lent (now (wp .exit)) (now (sp .exit)) (now (wl .exit)) (now (sl .exit))) r ≡ hear (now (text .entry)) (stands (lent (now (wp .entry)) (now (sp .entry)) (now (wl .entry)) (now (sl .entry))) h) .left ⌝ }
+{
+    let mut out = [0u8; PRINTED];
+    let y = hear_bytes(wp, sp, wl, sl, h, text, &mut out);
+    let n = y.said;
+    io::write_all(STDOUT_FILENO, &out[..n]);
+    y
+}
+
+// One read.
+fn hear_some(wp: &mut [u8], sp: &mut [u8], wl: &mut [u8], sl: &mut [u8], h: Heard) -> Heard {
+    let mut text = [0u8; READ];
     let got = libc::read(STDIN_FILENO, &mut text);
     let n = io::count(got, &text);
     if n == 0 {
+        let l = h.line;
+        let d = h.desk;
         return Heard {
             line: l,
             desk: d,
+            said: 0,
             more: false,
         };
     }
-    hear_bytes(wp, sp, wl, sl, h, &text[..n])
+    hear_read(wp, sp, wl, sl, h, &text[..n])
 }
 
 // Reads until there is no more. The turns are counted, as a proved loop has to end.
@@ -182,26 +248,6 @@ fn hear_all(wp: &mut [u8], sp: &mut [u8], wl: &mut [u8], sl: &mut [u8], h: Heard
     now
 }
 
-// A new register, and nothing read yet.
-fn begun(wp: &mut [u8], sp: &mut [u8], wl: &mut [u8], sl: &mut [u8]) -> Heard {
-    let y = call_register::format(wp, sp, wl, sl, idle_desk(0));
-    let d = y.desk;
-    Heard {
-        line: new_line(),
-        desk: d,
-        more: true,
-    }
-}
-
-// The last line may have no end.
-fn end(wp: &mut [u8], sp: &mut [u8], wl: &mut [u8], sl: &mut [u8], h: Heard) {
-    let l = h.line;
-    let d = h.desk;
-    if l.place != 0 {
-        answer_line(wp, sp, wl, sl, d, l);
-    }
-}
-
 fn listen(wp: &mut [u8], sp: &mut [u8], wl: &mut [u8], sl: &mut [u8]) -> Heard {
     let h = begun(wp, sp, wl, sl);
     hear_all(wp, sp, wl, sl, h)
@@ -209,7 +255,10 @@ fn listen(wp: &mut [u8], sp: &mut [u8], wl: &mut [u8], sl: &mut [u8]) -> Heard {
 
 fn run(wp: &mut [u8], sp: &mut [u8], wl: &mut [u8], sl: &mut [u8]) {
     let h = listen(wp, sp, wl, sl);
-    end(wp, sp, wl, sl, h);
+    let mut out = [0u8; LONGEST];
+    let y = end(wp, sp, wl, sl, h, &mut out);
+    let n = y.said;
+    io::write_all(STDOUT_FILENO, &out[..n]);
 }
 
 fn main() {

@@ -13,7 +13,7 @@ use Rattle.def_layout.specs.Sizes.{room}
 use Rattle.def_layout.specs.Pages.{Page, size, kind-is, kind-at, free, leaf, index}
 use Rattle.def_layout.specs.Records.{Rec, Kind, begin, insert, delete, undo-insert, undo-delete, commit, abort-mark, end, split, link, unlink, merge, redistribute, raise, lower}
 use Rattle.def_model.specs.Change
-use Rattle.def_model.specs.Change.{Role, role, as-a, as-b, as-c, as-map, first-key, kept, into-a, takes, page-marked}
+use Rattle.def_model.specs.Change.{Role, role, as-a, as-b, as-c, as-map, kept, into-a, takes, page-marked}
 
 unfoldable pub found : {A : Type 0} → Option A → Bool
 found none = false
@@ -30,6 +30,16 @@ after from (e ∷ es) = after (suc (e .key)) es
 
 abbrev pub last-key-is : ℕ → List Entry → Bool
 last-key-is k es = eqb (after 0 es) (suc k)
+
+-- The key stands nowhere among the entries, in order or not.
+unfoldable pub nowhere : ℕ → List Entry → Bool
+nowhere k [] = true
+nowhere k (e ∷ es) = not (eqb (e .key) k) && nowhere k es
+
+-- The first of the second list stands after the last of the first. Where one of them is empty there is nothing to ask.
+unfoldable pub in-order : List Entry → List Entry → Bool
+in-order xs [] = true
+in-order xs (e ∷ es) = leb (after 0 xs) (e .key)
 
 -- The entry found for w is (w, b), and u lies strictly between the key before it and w.
 unfoldable pub link-fits : ℕ → ℕ → ℕ → ℕ → List Entry → Bool
@@ -66,21 +76,24 @@ children-in x es = is-leaf x || ten-bits es
 abbrev pub ends-with : List Entry → Page → Bool
 ends-with es x = same-entries (drop (size x - length es) (x .entries)) es
 
+-- In 12 and 13 alike the first moved entry stands after the receiving A's last, the last moved one before the receiving B's first; with none
+-- moved there is nothing to ask. The page that gives is judged by place alone.
+
 -- A redistribution, on the receiving or the giving page.
 unfoldable pub share-fits-a : Bool → Rec → Page → Bool
-share-fits-a true r x = has-room (length (r .entries)) x && (last-key-is (r .key) (x .entries ++ r .entries) && children-in x (r .entries))
+share-fits-a true r x = has-room (length (r .entries)) x && (last-key-is (r .key) (x .entries ++ r .entries) && (in-order (x .entries) (r .entries) && children-in x (r .entries)))
 share-fits-a false r x = ends-with (r .entries) x && last-key-is (r .key) (kept (r .entries) (x .entries))
 
 unfoldable pub share-fits-b : Bool → Rec → Page → Bool
 share-fits-b true r x = same-entries (take (length (r .entries)) (x .entries)) (r .entries)
-share-fits-b false r x = has-room (length (r .entries)) x && children-in x (r .entries)
+share-fits-b false r x = has-room (length (r .entries)) x && (in-order (r .entries) (x .entries) && children-in x (r .entries))
 
 unfoldable pub fits-a : Kind → Rec → Page → Bool
 fits-a begin r x = true
-fits-a insert r x = is-leaf x && (has-room 1 x && not (found (look (r .key) (x .entries))))
+fits-a insert r x = is-leaf x && (has-room 1 x && nowhere (r .key) (x .entries))
 fits-a delete r x = is-leaf x && found-value (r .second) (look (r .key) (x .entries))
 fits-a undo-insert r x = is-leaf x && found (look (r .key) (x .entries))
-fits-a undo-delete r x = is-leaf x && (has-room 1 x && not (found (look (r .key) (x .entries))))
+fits-a undo-delete r x = is-leaf x && (has-room 1 x && nowhere (r .key) (x .entries))
 fits-a commit r x = true
 fits-a abort-mark r x = true
 fits-a end r x = true
@@ -89,7 +102,7 @@ fits-a split r x =
 fits-a link r x = is-index x && (has-room 1 x && link-fits (r .pageB) (r .key) (r .second) 0 (x .entries))
 fits-a unlink r x = is-index x && side-by-side (r .pageB) (r .key) (r .pageC) (r .second) (x .entries)
 fits-a merge r x =
-    is-node x && (has-room (length (r .entries)) x && (eqb (x .right) (r .pageB) && (leb (after 0 (x .entries)) (first-key (r .entries)) && children-in x (r .entries))))
+    is-node x && (has-room (length (r .entries)) x && (eqb (x .right) (r .pageB) && (in-order (x .entries) (r .entries) && children-in x (r .entries))))
 fits-a redistribute r x = is-node x && (eqb (x .right) (r .pageB) && share-fits-a (into-a r) r x)
 fits-a raise r x = at-level (r .level) x && (same-entries (x .entries) (r .entries) && (eqb (x .right) (r .pageB) && ltb (r .level) 15))
 fits-a lower r x = at-level (suc (r .level)) x && (eqb (size x) 1 && (eqb (entry-at (x .entries) 0 .val) (r .pageB) && eqb (x .right) 0))

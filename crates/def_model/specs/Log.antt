@@ -1,4 +1,5 @@
--- The log in its slots: which record stands where. Nobody else knows that record n stands in slot n.
+-- The log in its slots: which record stands where. That record n stands in slot n is said here, and by `Update: logged`, which adds a record at the
+-- end; all else asks `slot-of` and `log-area`.
 use Prim.Native.Nat.{ℕ, suc, _+_, _-_}
 use mathlib.Core.Bool.{Bool, true, false, _&&_}
 use mathlib.Core.List.{List, [], _∷_, _++_}

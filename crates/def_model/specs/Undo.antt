@@ -1,4 +1,5 @@
--- Undo. 01: "undoes newest first, always from the root": an update's undo goes down the tree as the update did, and is logged once.
+-- Undo. 01: "undoes newest first, always from the root": an insert's undo goes down the tree as a delete does and a delete's as an insert does, wherever
+-- the slide stands by now. It is logged once, and so are the tree changes on its way; neither is undone.
 use Prim.Native.Nat.{ℕ, zero, suc, _-_}
 use mathlib.Core.Option.{Option, none, some}
 use mathlib.Core.Bool.{Bool, true, false}

@@ -1,6 +1,6 @@
 -- DEMAND 3, as one type. "Assume each store whole or absent, none there without all those before it, a finished call's all there": a call's
 -- stores are a list, of which a cut leaves a first part. Everything named here stands in 01's own definitions, in Events or in Book.
-use Prim.Native.Nat.{ℕ, _+_, _-_, _≤_, _<_}
+use Prim.Native.Nat.{ℕ, _+_, _-_, _*_, _≤_, _<_}
 use mathlib.Core.Path.{_≡_}
 use mathlib.Core.Logic.{_≢_, _⊎_}
 use mathlib.Core.Bool.{Bool, true, _&&_}
@@ -11,10 +11,13 @@ use Rattle.def_base.specs.Tests.{any}
 use Rattle.def_layout.specs.declared.Desk.{Desk}
 use Rattle.def_layout.specs.Records.{Rec, commit, kind-number}
 use Rattle.def_model.specs.Answers.{answer-numbers}
-use Rattle.def_model.specs.TreeRules.{tree-ok, leaf-records}
+use Rattle.def_model.specs.Log.{slots-used}
+use Rattle.def_model.specs.TreeRules.{tree-ok, leaf-records, free-pages}
 use Rattle.def_model.specs.Update.{Run}
+use Rattle.def_model.specs.Batches.{Batch, open-batches, pending-count}
+use Rattle.def_model.specs.Sound.{reserve, reserves-ok}
 use Rattle.def_model.specs.Areas.{Areas, pages-of}
-use Rattle.def_model.specs.Restart.{stable-log, redone, redone-pages, settle}
+use Rattle.def_model.specs.Restart.{stable-log, stable-slots, redone, redone-pages, settle}
 use Rattle.def_model.specs.OnBytes
 use Rattle.def_model.specs.OnBytes.{Lent, restart, lengths-ok, read-areas, read-pages}
 use Rattle.def_recovery.specs.Events.{World, Event, ended, result, passes, happen-all, AllAllowed, formatted}
@@ -68,8 +71,9 @@ settled n w = settle (with-room n (redone (stored w)))
 abbrev pub written : ℕ → World → ℕ
 written n w = length (settled n w .log) - length (stable-log (stored w))
 
+-- The slots that are free.
 abbrev pub room-lent : World → ℕ
-room-lent w = redone (stored w) .room
+room-lent w = stable-slots (stored w) - slots-used (stable-log (stored w))
 
 -- "Restart stops for want of places exactly when its written rules need more than were lent." Given room for n records, so much that room
 -- is not short, its rules write the last `written n` records of `settled n`, and either end there or come to a split or raise with no free
@@ -81,6 +85,24 @@ pub record WantsExactly (w : World) : Type 0 where
   pub wants-room-first : (n : ℕ) → settled n w .stop ≡ 18 → room-lent w ≤ written n w → reason w ≡ 17
   pub some-room-does : (n : ℕ) × (settled n w .stop ≢ 17)
 
+-- ---- enough places
+
+-- The batches that the stored log leaves open.
+abbrev pub left-open : World → List Batch
+left-open w = open-batches (stable-log (stored w))
+
+-- 01's reserves, of what is stored, with its pages redone: "u + 32p + 2b at most the slots and at least 7p free pages".
+abbrev pub reserved : World → Bool
+reserved w = reserves-ok (stable-slots (stored w)) (redone-pages (stored w)) (stable-log (stored w)) (left-open w)
+
+-- ENOUGH IS ENOUGH, of slots and of pages alike. With the reserves restart finishes; with the pages of the reserves its rules end within the
+-- slots of the reserves; and whatever the room, it stops only where its next record (17) or page (18) does not exist.
+pub record Suffices (w : World) : Type 0 where
+  pub finishes : reserved w ≡ true → reason w ≡ 0
+  pub ends : 7 * pending-count (left-open w) ≤ free-pages (redone-pages (stored w)) → settled (reserve (pending-count (left-open w)) (length (left-open w))) w .stop ≡ 0
+  pub no-room-left : (n : ℕ) → settled n w .stop ≡ 17 → settled n w .room ≡ 0
+  pub no-page-left : (n : ℕ) → settled n w .stop ≡ 18 → free-pages (settled n w .pages) ≡ 0
+
 -- ---- the whole
 
 pub record Recovers (es : List Event) (w : World) : Type 0 where
@@ -89,6 +111,7 @@ pub record Recovers (es : List Event) (w : World) : Type 0 where
   pub leaves : lengths-ok (happen-all es w .lent) ≡ true → LeavesAreSlides (happen-all es w)
   pub reported : lengths-ok (happen-all es w .lent) ≡ true → ReportedIsStored es w
   pub wants : lengths-ok (happen-all es w .lent) ≡ true → WantsExactly (happen-all es w)
+  pub suffices : lengths-ok (happen-all es w .lent) ≡ true → Suffices (happen-all es w)
 
 -- For any list of calls, cuts and growth since the last finished formatting.
 unfoldable pub Demand3 : Type 0

@@ -6,7 +6,7 @@ use mathlib.Core.List.{[], _∷_}
 use mathlib.Core.Option.{none}
 use lib.Dec.{leb}
 use Rattle.def_base.specs.Tests.{pick, every, and-both}
-use Rattle.def_layout.specs.Entries.{top, look}
+use Rattle.def_layout.specs.Entries.{entry, top, look}
 use Rattle.def_layout.specs.Pages.{at}
 use Rattle.def_model.specs.declared.Refusal.the-variants.{Absent}
 use Rattle.def_model.specs.Answers.{Outcome, refuse, first-broken}
@@ -17,9 +17,10 @@ use Rattle.def_model.specs.Lookup.{fetched}
 use Rattle.def_model.specs.Sound.{sound, work-pages, work-open}
 use Rattle.def_model.specs.Calls.{formatted-pages, is-none, fetch-slide, fetch-by, fetch-checks}
 use Rattle.def_model.specs.OnBytes.{begin, fetch, next, outcome}
-use Rattle.def_sessions.specs.Play.{Machine, ask, new, ended, play, play-step, comes-true, same-answers}
+use Rattle.def_sessions.specs.Play.{Machine, ask, new, ended, play, play-step, shows, comes-true, same-answers}
 use Rattle.def_sessions.specs.Compute.{computed}
 use Rattle.def_sessions.specs.Table.{any-key, rows, table, answers, refused, a-split, a-raise, a-merge, a-held-key, a-ninth, enough-slots, too-few-slots, too-few-pages, a-cut, a-lower, shared-left, shared-right, an-abort, a-redo, unstored-commit, stored-commit, console, next-held, next-held-between, each-refusal, three-open, redo-of-changes, two-inserts, begin-fits, begin-short, done}
+use Rattle.def_sessions.specs.Forged.{forged, forged-answers, unsorted, two-added, both-removed}
 
 -- ---- a new register with one batch, and any key
 
@@ -66,7 +67,7 @@ unfolding then-next begun computed
 refused-then-next = refl
 
 any-key-holds : (k : ℕ) → comes-true (any-key k) ≡ true
-unfolding comes-true play play-step begun then-next every
+unfolding comes-true shows play play-step begun then-next every
 any-key-holds k = and-both (subst (λ o. then-next o ≡ true) (sym (absent k)) refused-then-next) refl
 
 -- ---- the other rows, computed
@@ -182,6 +183,23 @@ begin-fits-holds = refl
 begin-short-holds : comes-true begin-short ≡ true
 unfolding computed
 begin-short-holds = refl
+
+-- ---- forged images
+
+-- Page 1 has record 2, and record 3 is to insert 10: done where the page lacks 10, refused where it has it though the search does not find it, also
+-- where later records would leave 10 and 20, which rise.
+
+forged-added-holds : same-answers (forged-answers two-added 2 (entry 30 30 ∷ [])) (answers 1 ∷ done ∷ done ∷ done ∷ (0 ∷ 0 ∷ 1 ∷ []) ∷ []) ≡ true
+unfolding computed forged forged-answers
+forged-added-holds = refl
+
+forged-refused-holds : same-answers (forged-answers two-added 2 unsorted) (answers 1 ∷ done ∷ done ∷ done ∷ refused 5 ∷ []) ≡ true
+unfolding computed forged forged-answers
+forged-refused-holds = refl
+
+forged-sorted-refused-holds : same-answers (forged-answers both-removed 2 unsorted) (answers 1 ∷ done ∷ done ∷ done ∷ done ∷ done ∷ refused 5 ∷ []) ≡ true
+unfolding computed forged forged-answers
+forged-sorted-refused-holds = refl
 
 rows-hold : every comes-true rows ≡ true
 unfolding every

@@ -10,7 +10,7 @@ use Rattle.def_layout.specs.Rows.{carries, named-only, one-side, row-says, row,
 use Rattle.def_layout.specs.RecordBytes.{record-bytes}
 use Rattle.def_layout.specs.Desks.{eight-rows, same-row, same-rows, same-desk}
 use Rattle.def_model.specs.Change.{link-in, unlink-in, entries-in, cut-to-size, role, share-in-a, share-in-b, change-a, change-b, change-c, change}
-use Rattle.def_model.specs.Fit.{found, found-value, after, link-fits, side-by-side, share-fits-a, share-fits-b, fits-a, fits-b, fits-map, fits-role}
+use Rattle.def_model.specs.Fit.{found, found-value, after, nowhere, in-order, link-fits, side-by-side, share-fits-a, share-fits-b, fits-a, fits-b, fits-map, fits-role}
 use Rattle.def_model.specs.Redo.{when-named, places, redo-at, redo-page, redo-places, redo-record, replay, count-places, redo-count, fits-places, redo-fits}
 use Rattle.def_model.specs.TreeRules.{flat, node-of, chain, first-child, collect, bottom, leaves, leaf-records, rising, ends-ok, node-ok, level-ok, matches, first-page, pages-ok, below-ok, counted, ones, root-least, levels-ok, walk-ok, tree-ok}
 use Rattle.def_model.specs.Lookup.{entry-or, leaf-for, fetched, first-of, or-after, next-by, next-above}
@@ -25,13 +25,13 @@ use Rattle.def_model.specs.Calls.{run-of, run-side, kept-run, stored-run, is-no
 use Rattle.def_model.specs.Undo.{undo-by, undo-line, undo-lines, end-batch, abort-run, mark-by, mark-all, end-by, end-idle, newer, newest-due, with-lines, after-line, undo-newest, without-newest, undo-step, undo-all}
 use Rattle.def_model.specs.Restart.{redone-pages, redone, settle, restarted, restart-checks, restart-by, restart-areas}
 use Rattle.def_model.specs.OnBytes.{outcome}
-use Rattle.def_sessions.specs.Play.{numbers, ended, cut-off, play-step, play, new, seen, same-answers, comes-true, Session}
+use Rattle.def_sessions.specs.Play.{numbers, ended, cut-off, forged, play-step, play, new, seen, same-answers, shows, comes-true, Session}
 
 unfoldable pub computed : Session → Bool
 unfolding every any seek look insert-sorted remove-key same-entries ten-bits put32 tab chunks entry-bytes entries-bytes same-bytes page-kind-number kind-is
     own-ok never-used layout-by layout page-front bits marks-word marks-bytes page-body page-bytes kind-number carries named-only one-side row-says row
     names-pages record-bytes eight-rows same-row same-rows same-desk link-in unlink-in entries-in cut-to-size role share-in-a share-in-b change-a change-b change-c
-    change found found-value after link-fits side-by-side share-fits-a share-fits-b fits-a fits-b fits-map fits-role when-named places redo-at redo-page
+    change found found-value after nowhere in-order link-fits side-by-side share-fits-a share-fits-b fits-a fits-b fits-map fits-role when-named places redo-at redo-page
     redo-places redo-record replay count-places redo-count fits-places redo-fits flat node-of chain first-child collect bottom leaves leaf-records rising
     ends-ok node-ok level-ok matches first-page pages-ok below-ok counted ones root-least levels-ok walk-ok tree-ok entry-or leaf-for fetched first-of
     or-after next-by next-above logged emit-by emit highest fresh taking-by emit-taking split-page room-by make-room link-child linked-by direct-by
@@ -45,6 +45,6 @@ unfolding every any seek look insert-sorted remove-key same-entries ten-bits put
     fetch-checks value-or fetch-by fetch-slide next-limit next-checks next-answer next-slide-by next-slide last-of insert-checks insert-by insert-slide
     delete-checks delete-by delete-slide commit-checks commit-by commit-batch aborted abort-checks abort-by abort-batch write-out-checks write-out-by
     write-out-page undo-by undo-line undo-lines end-batch abort-run mark-by mark-all end-by end-idle newer newest-due with-lines after-line undo-newest
-    without-newest undo-step undo-all redone-pages redone settle restarted restart-checks restart-by restart-areas outcome numbers ended cut-off play-step
-    play new seen same-answers comes-true
+    without-newest undo-step undo-all redone-pages redone settle restarted restart-checks restart-by restart-areas outcome numbers ended cut-off forged play-step
+    play new seen same-answers shows comes-true
 computed s = comes-true s

@@ -1,4 +1,10 @@
 pub mod Play
 pub mod Compute
 pub mod Table
+pub mod Forged
 pub mod Claim
+pub mod Damage
+pub mod ClaimDamage
+pub mod Descents
+pub mod ClaimDescents
+pub mod OnBytes

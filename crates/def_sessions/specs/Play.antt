@@ -1,8 +1,8 @@
--- A session: calls on a new register, cuts, what is answered, and what can be seen in the areas afterwards.
+-- A session: calls on a new register, cuts, forged pages and slots, what is answered, and what can be seen in the areas afterwards.
 use Prim.Native.Nat.{ℕ, _+_, _-_}
 use mathlib.Core.Bool.{Bool, true, false, _&&_}
 use mathlib.Core.List.{List, [], _∷_, _++_, map}
-use lib.ListN.{length, take, drop}
+use lib.ListN.{length, take, drop, set}
 use lib.Dec.{eqb}
 use Rattle.def_base.specs.Tests.{every}
 use Rattle.def_layout.specs.declared.Entry.{Entry}
@@ -11,18 +11,23 @@ use Rattle.def_layout.specs.Desks.{empty-desk}
 use Rattle.def_layout.specs.Numbers.{same-bytes}
 use Rattle.def_layout.specs.Entries.{same-entries}
 use Rattle.def_layout.specs.Pages.{at, page-kind-number}
-use Rattle.def_layout.specs.PageBytes.{page-bytes}
+use Rattle.def_layout.specs.PageBytes.{Block, page-bytes}
 use Rattle.def_layout.specs.Records.{kind-number}
-use Rattle.def_model.specs.Areas.{Areas, zero-side, store-some}
+use Rattle.def_layout.specs.RecordBytes.{Slot}
+use Rattle.def_model.specs.Areas.{Side, Areas, zero-side, store-some}
+use Rattle.def_model.specs.Log.{slot-of}
 use Rattle.def_model.specs.Answers.{Outcome, Numbers, answer-numbers}
 use Rattle.def_model.specs.Sound.{work-pages, work-log}
 use Rattle.def_model.specs.TreeRules.{leaf-records}
 use Rattle.def_model.specs.OnBytes.{Call, format, outcome}
 
--- A call that ends; or one that is cut after so many of its stores, and leaves nothing of use in the working areas and the desk.
+-- A call that ends; one that is cut after so many of its stores, and leaves nothing of use in the working areas and the desk; or a stable page,
+-- or the slot of a log number, in whose place something else is put.
 pub data Step : Type 0 where
   ask : Call → Step
   cut : ℕ → Call → Step
+  forge-page : ℕ → Block → Step
+  forge-slot : ℕ → Slot → Step
 
 -- The four areas, the desk, and the answers so far, each as 0 or the refusal and two values.
 pub record Machine : Type 0 where
@@ -50,9 +55,14 @@ cut-off j o m =
       answers = m .answers;
     }
 
+unfoldable pub forged : Side → Machine → Machine
+forged s m = record { areas = record { work = m .areas .work; stable = s }; desk = m .desk; answers = m .answers }
+
 unfoldable pub play-step : Step → Machine → Machine
 play-step (ask c) m = ended (outcome c (m .areas) (m .desk)) m
 play-step (cut j c) m = cut-off j (outcome c (m .areas) (m .desk)) m
+play-step (forge-page p x) m = let s = m .areas .stable in forged (record { pages = set (s .pages) p x; log = s .log }) m
+play-step (forge-slot n x) m = let s = m .areas .stable in forged (record { pages = s .pages; log = set (s .log) (slot-of n) x }) m
 
 unfoldable pub play : List Step → Machine → Machine
 play [] m = m
@@ -103,7 +113,8 @@ same-answers (x ∷ xs) [] = false
 same-answers (x ∷ xs) (y ∷ ys) = same-bytes x y && same-answers xs ys
 
 -- The answers are those of the row, and all that it names is seen afterwards.
+unfoldable pub shows : Session → Machine → Bool
+shows s m = same-answers (m .answers) (s .answers) && every (seen m) (s .sees)
+
 unfoldable pub comes-true : Session → Bool
-comes-true s =
-    let m = play (s .steps) (new (s .pages) (s .slots)) in
-    same-answers (m .answers) (s .answers) && every (seen m) (s .sees)
+comes-true s = shows s (play (s .steps) (new (s .pages) (s .slots)))

@@ -125,7 +125,7 @@ an-abort =
     (answers 1 ∷ replicate 14 done ++ done ∷ answers 17 ∷ done ∷ answers 20 ∷ done ∷ done ∷ done ∷ [])
     (kinds-from 17 (1 ∷ 9 ∷ 2 ∷ 1 ∷ 14 ∷ 2 ∷ 6 ∷ 7 ∷ 4 ∷ 8 ∷ []) ∷ page-keys 255 (80 ∷ 85 ∷ 90 ∷ 100 ∷ 110 ∷ 120 ∷ 130 ∷ 140 ∷ []) ∷ [])
 
--- Nothing was written out: each of the two inserts of the committed batch is redone on page 1; the open batch is ended.
+-- Nothing was written out: the three inserts, two of the committed batch and one of the open one, are redone on page 1; then the open batch is ended.
 abbrev pub a-redo : Session
 a-redo =
     usual

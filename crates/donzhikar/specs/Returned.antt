@@ -1,79 +1,77 @@
--- The calls as C makes them: the desk is 136 bytes, the answer's values are 8, and the reason is returned.
-use mathlib.Core.Path.{_≡_, ap₂, sym, _∙_}
+-- The functions for C, and what they return and leave: laws that their proofs cite.
+use mathlib.Core.Path.{_≡_, ap, ap₂, sym, _∙_}
 use Prim.Native.Nat.{ℕ}
 use native.Mathlib.Omega.{arith}
-use mathlib.Core.Bool.{Bool, true, false, _&&_}
+use mathlib.Core.Bool.{Bool, true, false, not, _&&_}
 use mathlib.Core.List.{List, _++_}
 use lib.ListN.{length}
 use lib.Dec.{eqb}
 use Rattle.def_base.specs.Tests.{clash, eq-true}
 use Rattle.def_layout.specs.declared.Desk.{Desk}
-use Rattle.def_layout.specs.Numbers.{put32}
-use Rattle.def_layout.specs.Desks.{desk-bytes, read-desk}
-use Rattle.def_layout.specs.Sizes.{desk-size}
+use Rattle.def_layout.specs.Numbers.{put32, zeros}
+use Rattle.def_layout.specs.Desks.{empty-desk, desk-bytes, read-desk}
 use Rattle.def_model.specs.declared.Answer.{Answer}
 use Rattle.def_model.specs.Answers.{answer-numbers}
-use Rattle.def_model.specs.OnBytes.{Lent, Call, Result, call, lent-after}
-use Rattle.law_bytes.specs.Words.{put32-length}
+use Rattle.def_model.specs.OnBytes.{Lent, Call, call}
+use Rattle.def_c.specs.FromC.{returned, value-bytes, areas-left, answered, sizes-ok, refused-desk-bytes, refused-values, returned-by, c-call}
+use Rattle.law_bytes.specs.Words.{Bytes, put32-length}
 use Rattle.law_bytes.specs.Patch.{patch, then-patch, patch-whole}
+use Rattle.law_c.specs.RefusedByC.{empties, wrong-desk, desk-emptied, desk-kept, values-zeroed}
 use Rattle.call_reply.specs.declared.Reply.{Reply}
 use Rattle.call_reply.specs.Replies.{Replies}
 use Rattle.donzhikar.specs.declared.Request.{Request}
 
--- What a call from C returns and leaves.
-pub record Returned : Type 0 where
-  pub reason : ℕ
-  pub desk : List ℕ
-  pub values : List ℕ
-  pub areas : Lent
+-- ---- the lengths of desk and values
 
-abbrev pub returned : ℕ → List ℕ → List ℕ → Lent → Returned
-returned r desk values areas = record { reason = r; desk = desk; values = values; areas = areas }
-
--- Two values of 32 bits.
-abbrev pub values-size : ℕ
-values-size = 8
-
--- The answer's values, zeros where there are none.
-unfoldable pub value-bytes : Answer → List ℕ
-value-bytes a = put32 (answer-numbers a .first) ++ put32 (answer-numbers a .second)
-
--- All of a call's stores carried out: "the call's own being its whole list".
-unfoldable pub areas-left : Result → Lent → Lent
-areas-left r l = lent-after (length (r .stores)) r l
-
-unfoldable pub answered : Result → Lent → Returned
-answered r l = returned (answer-numbers (r .answer) .reason) (desk-bytes (r .desk)) (value-bytes (r .answer)) (areas-left r l)
-
-unfoldable pub returned-by : Bool → Call → Lent → List ℕ → List ℕ → Returned
-returned-by false c l desk values = returned 1 desk values l
-returned-by true c l desk values = answered (call c l (read-desk desk)) l
-
--- A CALL FROM C. A desk or an answer of another length is refused as an area is, by 1, and nothing changes.
-unfoldable pub c-call : Call → Lent → List ℕ → List ℕ → Returned
-c-call c l desk values = returned-by (eqb (length desk) desk-size && eqb (length values) values-size) c l desk values
-
--- ---- for the code
-
--- What the lengths say of every call.
+-- What they say of every call.
 pub record Asks (desk values : List ℕ) (q : Request) : Type 0 where
-  pub refuses : q .refused ≡ true → (c : Call) (l : Lent) → returned 1 desk values l ≡ c-call c l desk values
+  pub wrong : q .refused ≡ true → sizes-ok desk values ≡ false
   pub sizes : q .refused ≡ false → (length desk ≡ 136) × (length values ≡ 8)
   pub asks : q .refused ≡ false → (c : Call) (l : Lent) → answered (call c l (q .desk)) l ≡ c-call c l desk values
 
 module _ (desk values : List ℕ) (q : Request) where
   pub wrong-length : q .refused ≡ true → eqb (length desk) 136 && eqb (length values) 8 ≡ false → Asks desk values q
-  unfolding c-call returned-by
-  wrong-length r e = record { refuses = λ t c l. rw (c-call, e); sizes = λ t. clash (sym r ∙ t); asks = λ t. clash (sym r ∙ t) }
+  unfolding sizes-ok
+  wrong-length r e = record { wrong = λ t. e; sizes = λ t. clash (sym r ∙ t); asks = λ t. clash (sym r ∙ t) }
 
   pub right-lengths : q .refused ≡ false → length desk ≡ 136 → length values ≡ 8 → q .desk ≡ read-desk desk → Asks desk values q
-  unfolding c-call returned-by
+  unfolding sizes-ok c-call returned-by
   right-lengths r e f d =
       record {
-        refuses = λ t. clash (sym t ∙ r);
+        wrong = λ t. clash (sym t ∙ r);
         sizes = λ t. (e, f);
-        asks = λ t c l. rw (c-call, eq-true (length desk) 136 e, eq-true (length values) 8 f, d);
+        asks = λ t c l. rw (c-call, sizes-ok, eq-true (length desk) 136 e, eq-true (length values) 8 f, d);
       }
+
+-- ---- a refusal for one of them
+
+-- What is left of the desk by a call that empties it, or by another.
+abbrev pub DeskLeft : Bool → List ℕ → List ℕ → Type 0
+DeskLeft e desk after = (c : Call) → empties c ≡ e → after ≡ refused-desk-bytes c desk
+
+pub other-desk : (e : Bool) (desk : List ℕ) → eqb (length desk) 136 ≡ false → DeskLeft e desk desk
+other-desk e desk n c p = sym (wrong-desk c desk n)
+
+pub same-desk : (e : Bool) (desk : List ℕ) → not e ≡ true → Bytes desk → DeskLeft e desk desk
+same-desk true desk t w c p = clash (sym t)
+same-desk false desk t w c p = sym (desk-kept c desk p w)
+
+pub new-desk : (e : Bool) (desk after : List ℕ) (d : Desk) → not e ≡ false → length desk ≡ 136 → d ≡ empty-desk → after ≡ desk-bytes d → DeskLeft e desk after
+new-desk false desk after d t h k a c p = clash t
+new-desk true desk after d t h k a c p = a ∙ ap desk-bytes k ∙ sym (desk-emptied c desk p h)
+
+pub zero-values : (values after : List ℕ) → length values ≡ 8 → after ≡ zeros (length values) → after ≡ refused-values values
+zero-values values after h a = a ∙ ap zeros h ∙ sym (values-zeroed values h)
+
+-- What a refusal makes of the desk and the values.
+abbrev pub Refuses : Bool → (desk values : List ℕ) → ℕ → (desk′ values′ : List ℕ) → Type 0
+Refuses e desk values r desk′ values′ = (c : Call) (l : Lent) → empties c ≡ e → sizes-ok desk values ≡ false → returned r desk′ values′ l ≡ c-call c l desk values
+
+pub refuses : (e : Bool) (desk values desk′ values′ : List ℕ) → DeskLeft e desk desk′ → values′ ≡ refused-values values → Refuses e desk values 1 desk′ values′
+unfolding c-call returned-by
+refuses e desk values desk′ values′ f g c l p s = rw (c-call, s, f c p, g)
+
+-- ---- a reply
 
 -- What a reply makes of the desk and the values.
 abbrev pub Gives : Reply → ℕ → List ℕ → List ℕ → Type 0

@@ -4,6 +4,7 @@
 // then 8 bytes for the answer's two values, then the call's numbers. It returns 0 or the refusal's number.
 use call_reply::Reply;
 use codec_bytes::set32;
+use codec_bytes::zero;
 use codec_desk::get_desk;
 use codec_desk::idle_desk;
 use codec_desk::put_desk;
@@ -17,7 +18,8 @@ ghost use lib.ListN.{length};
 ghost use Rattle.def_layout.specs.Sizes.{desk-size};
 ghost use Rattle.def_model.specs.OnBytes as calls;
 ghost use Rattle.area_lengths.specs.Lent.{lent};
-ghost use Rattle.donzhikar.specs.Returned.{returned, c-call, Asks, Gives};
+ghost use Rattle.def_c.specs.FromC.{returned, refused-values, c-call};
+ghost use Rattle.donzhikar.specs.Returned.{Asks, DeskLeft, Refuses, Gives};
 
 // What stands before every call: whether it is refused by a length, and if not the desk.
 struct Request {
@@ -43,6 +45,38 @@ fn asked(desk: &[u8], values: &[u8]) -> Request
         refused: false,
         desk: get_desk(desk),
     }
+}
+
+// The desk after a refusal for a length: emptied by some calls, if it has its own.
+fn refuse_desk(desk: &mut [u8], empties: bool)
+    ensures { λ _. ⌜ DeskLeft empties (now (desk .entry)) (now (desk .exit)) ⌝ }
+{
+    if desk.len() != DESK_SIZE {
+        return;
+    }
+    if !empties {
+        return;
+    }
+    put_desk(desk, idle_desk(0));
+}
+
+// The room for values after it: zeros, if it has its length.
+fn refuse_values(room: &mut [u8])
+    ensures { λ _. ⌜ now (room .exit) ≡ refused-values (now (room .entry)) ⌝ }
+{
+    if room.len() != 8 {
+        return;
+    }
+    zero(room);
+}
+
+// The refusal for a length of desk or values. Format and restart empty the desk.
+fn refuse(desk: &mut [u8], values: &mut [u8], empties: bool) -> u32
+    ensures { λ r. ⌜ Refuses empties (now (desk .entry)) (now (values .entry)) r (now (desk .exit)) (now (values .exit)) ⌝ }
+{
+    refuse_desk(desk, empties);
+    refuse_values(values);
+    1
 }
 
 // A reply, as C gets it.
@@ -72,7 +106,7 @@ pub extern "C" fn donzhikar_format(
 {
     let q = asked(desk, values);
     if q.refused {
-        return 1;
+        return refuse(desk, values, true);
     }
     let d = q.desk;
     let y = call_register::format(wp, sp, wl, sl, d);
@@ -93,7 +127,7 @@ pub extern "C" fn donzhikar_begin(
 {
     let q = asked(desk, values);
     if q.refused {
-        return 1;
+        return refuse(desk, values, false);
     }
     let d = q.desk;
     let y = call_register::begin(wp, sp, wl, sl, d);
@@ -116,7 +150,7 @@ pub extern "C" fn donzhikar_fetch(
 {
     let q = asked(desk, values);
     if q.refused {
-        return 1;
+        return refuse(desk, values, false);
     }
     let d = q.desk;
     let y = call_register::fetch(wp, sp, wl, sl, d, batch, key);
@@ -139,7 +173,7 @@ pub extern "C" fn donzhikar_next(
 {
     let q = asked(desk, values);
     if q.refused {
-        return 1;
+        return refuse(desk, values, false);
     }
     let d = q.desk;
     let y = call_register::next(wp, sp, wl, sl, d, batch, key);
@@ -163,7 +197,7 @@ pub extern "C" fn donzhikar_insert(
 {
     let q = asked(desk, values);
     if q.refused {
-        return 1;
+        return refuse(desk, values, false);
     }
     let d = q.desk;
     let y = call_register::insert(wp, sp, wl, sl, d, batch, key, value);
@@ -186,7 +220,7 @@ pub extern "C" fn donzhikar_delete(
 {
     let q = asked(desk, values);
     if q.refused {
-        return 1;
+        return refuse(desk, values, false);
     }
     let d = q.desk;
     let y = call_register::delete(wp, sp, wl, sl, d, batch, key);
@@ -208,7 +242,7 @@ pub extern "C" fn donzhikar_commit(
 {
     let q = asked(desk, values);
     if q.refused {
-        return 1;
+        return refuse(desk, values, false);
     }
     let d = q.desk;
     let y = call_register::commit(wp, sp, wl, sl, d, batch);
@@ -230,7 +264,7 @@ pub extern "C" fn donzhikar_abort(
 {
     let q = asked(desk, values);
     if q.refused {
-        return 1;
+        return refuse(desk, values, false);
     }
     let d = q.desk;
     let y = call_register::abort(wp, sp, wl, sl, d, batch);
@@ -252,7 +286,7 @@ pub extern "C" fn donzhikar_write_out(
 {
     let q = asked(desk, values);
     if q.refused {
-        return 1;
+        return refuse(desk, values, false);
     }
     let d = q.desk;
     let y = call_register::write_out(wp, sp, wl, sl, d, page);
@@ -273,7 +307,7 @@ pub extern "C" fn donzhikar_restart(
 {
     let q = asked(desk, values);
     if q.refused {
-        return 1;
+        return refuse(desk, values, true);
     }
     let d = q.desk;
     let y = call_register::restart(wp, sp, wl, sl, d);

@@ -3,6 +3,7 @@ pub mod Parts
 pub mod Held
 pub mod Pages
 pub mod Logs
+pub mod Refusal1
 pub mod Lengths
 pub mod Stores
 pub mod Storing

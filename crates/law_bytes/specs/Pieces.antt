@@ -40,7 +40,7 @@ module _ {A : Type 0} (w : ℕ) (f : List ℕ → A) where
   read-all-past n p s d h = List·getD-eq-default (read-all w f n s) d {n = p} (subst (λ (k : ℕ). k ≤ p) (sym (read-all-length n s)) h)
 
   -- STORED: w bytes that are written over piece p are that element of the list.
-  read-all-patch : (n p : ℕ) (s v : List ℕ) → length v ≡ w → p < n → w * n ≤ length s → read-all w f n (patch s (w * p) v) ≡ set (read-all w f n s) p (f v)
+  pub read-all-patch : (n p : ℕ) (s v : List ℕ) → length v ≡ w → p < n → w * n ≤ length s → read-all w f n (patch s (w * p) v) ≡ set (read-all w f n s) p (f v)
   unfolding read-all
   read-all-patch zero p s v z h l = absurd (not-suc-le-zero h)
   read-all-patch (suc n) zero s v z h l =

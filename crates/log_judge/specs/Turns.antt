@@ -29,7 +29,7 @@ use Rattle.log_chain.specs.Shown.{right-with, Shows}
 use Rattle.log_chain.specs.Steps.{Tells, Stepped, Steps, GoesOn}
 use Rattle.log_chain.specs.Families.{longer-row, updates-ask, halts, updates}
 use Rattle.log_chain.specs.Undos.{StepsIn}
-use Rattle.log_judge.specs.Updates.{told-by, TellsUpdate}
+use Rattle.log_judge.specs.Updates.{told-by, Plain, TellsUpdate}
 
 -- What a slot that should hold record k of a register of n pages makes of the batches.
 unfoldable pub Turned : ℕ → ℕ → Slot → List Batch → Judged → Type 0
@@ -102,30 +102,35 @@ module _ (n m : ℕ) (b : List ℕ) (i : ℕ) (rs : List Row) (ms : List Bool) (
       as-turned bs (subst (λ (y : Bool). Stepped (y && chain-step (suc i) x bs) (tell (x .kind) (suc i) x bs) r) (sym z)
       (subst (λ (y : ℕ). Stepped (chain-step y x bs) (tell (x .kind) y x bs) r) c g))
 
--- A slot that holds an update, by its numbers alone.
-module _ (n m : ℕ) (b : List ℕ) (i : ℕ) (rs : List Row) (ms : List Bool) (t : Told) (u : TellsUpdate n m b i t) (p : ℕ) (g : GoesOn rs ms t p) where
+-- A slot that is in order in all but its chain, by its numbers alone.
+module _ (n m : ℕ) (b : List ℕ) (i : ℕ) (rs : List Row) (ms : List Bool) (t : Told) (holds : Plain n (suc i) (part b (slot-size * i) slot-size)) (told : t ≡ told-by (part b (slot-size * i) slot-size)) where
   abbrev bytes : List ℕ
   bytes = part b (slot-size * i) slot-size
 
-  by-step : (r : Judged) → Steps rs ms t r → Turns n m b i rs ms r
+  pub by-step : (r : Judged) → StepsIn m b rs ms t r → Turns n m b i rs ms r
   unfolding Turned record-fields
   by-step r f log bs rd l hd s =
-      let own : t .own ≡ suc i = ap (λ (y : Told). y .own) (u .told) ∙ u .holds .number in
-      let w : Tells t (record-fields bytes) = subst (λ (y : Told). Tells y (record-fields bytes)) (sym (u .told)) tells in
-      let c = f log bs (record-fields bytes) hd s w (own ∙ ap suc (sym l)) in
+      let own : t .own ≡ suc i = ap (λ (y : Told). y .own) told ∙ holds .number in
+      let w : Tells t (record-fields bytes) = subst (λ (y : Told). Tells y (record-fields bytes)) (sym told) tells in
+      let c = f log bs (record-fields bytes) rd hd s w (own ∙ ap suc (sym l)) in
       let d : Stepped (chain-step (suc i) (record-fields bytes) bs) (tell (record-fields bytes .kind) (suc i) (record-fields bytes) bs) r =
       subst (λ (y : ℕ). Stepped (chain-step y (record-fields bytes) bs) (tell (record-fields bytes .kind) y (record-fields bytes) bs) r) own c in
-      subst (λ (y : Slot). Turned n (suc i) y bs r) (sym (u .holds .reads))
+      subst (λ (y : Slot). Turned n (suc i) y bs r) (sym (holds .reads))
       (subst (λ (v : Bool). Stepped v (tell (record-fields bytes .kind) (suc i) (record-fields bytes) bs) r)
-      (sym (rw (eq-true (be32 bytes 4) (suc i) (u .holds .number), u .holds .row, u .holds .pages))) d)
+      (sym (rw (eq-true (be32 bytes 4) (suc i) (holds .number), holds .row, holds .pages))) d)
     where
       tells : Tells (told-by bytes) (record-fields bytes)
       tells = record { kind = refl; batch = refl; previous = refl; key = refl; second = refl }
 
+-- One that holds an update.
+module _ (n m : ℕ) (b : List ℕ) (i : ℕ) (rs : List Row) (ms : List Bool) (t : Told) (u : TellsUpdate n m b i t) (p : ℕ) (g : GoesOn rs ms t p) where
+  steps : (r : Judged) → Steps rs ms t r → Turns n m b i rs ms r
+  steps r f = by-step n m b i rs ms t (u .holds) (u .told) r (λ log bs x rd. f log bs x)
+
   pub update-halts : p ≡ 8 → Turns n m b i rs ms (record { ok = false; rows = rs; marked = ms })
   update-halts z =
       let r : Judged = record { ok = false; rows = rs; marked = ms } in
-      by-step r (halts rs ms t p (updates-ask (t .kind) (u .least) (u .most)) g r z refl)
+      steps r (halts rs ms t p (updates-ask (t .kind) (u .least) (u .most)) g r z refl)
 
   pub update-goes : (p ≡ 8 → ⊥) → (y : Row) → y ≡ longer-row (row-at rs p) (t .own) → Turns n m b i rs ms (right-with (set rs p y) ms)
-  update-goes z y v = by-step (right-with (set rs p y) ms) (updates rs ms t p g z (u .least) (u .most) y v)
+  update-goes z y v = steps (right-with (set rs p y) ms) (updates rs ms t p g z (u .least) (u .most) y v)

@@ -1,5 +1,5 @@
--- A slot that holds an insert or a delete, known by its eight words and the zeros after them: most slots of a full log are such.
-use Prim.Native.Nat.{ℕ, suc, _+_, _-_, _*_, _/_, _%_, _≤_, _<_}
+-- A slot that holds an insert, a delete, a begin or a commit, known by its eight words and the zeros after them: nearly all slots of a full log are such.
+use Prim.Native.Nat.{ℕ, suc, _+_, _-_, _*_, _/_, _%_, _^_, _≤_, _<_}
 use mathlib.Core.Path.{_≡_, refl, sym, ap, _∙_, subst}
 use mathlib.Core.Bool.{Bool, true, false}
 use mathlib.Core.List.{List}
@@ -12,12 +12,12 @@ use lib.Dec.{eqb}
 use Rattle.def_base.specs.Tests.{and-both, eq-true, neq-false, lt-true}
 use Rattle.def_layout.specs.Entries.{no-entry}
 use Rattle.def_layout.specs.Numbers.{be32, tab, read-entry, same-bytes, zeros}
-use Rattle.def_layout.specs.Records.{kind-of, data-row}
+use Rattle.def_layout.specs.Records.{kind-of, begin, commit, data-row}
 use Rattle.def_layout.specs.RecordBytes.{full, record-fields, read-slot}
 use Rattle.def_layout.specs.Sizes.{slot-size}
 use Rattle.def_layout.specs.Rows.{carries, named-only, row-says, row, names-pages}
 use Rattle.def_model.specs.Log.{is-empty}
-use Rattle.law_bytes.specs.Words.{Bytes, part, be32-drop, be32-take}
+use Rattle.law_bytes.specs.Words.{Bytes, part, be32-lt, be32-drop, be32-take, bytes-take, bytes-drop}
 use Rattle.law_bytes.specs.Tables.{tab-length, getD-tab}
 use Rattle.law_bytes.specs.Ranges.{Run, in-run}
 use Rattle.law_bytes.specs.Same.{same-true, same-false, zeros-word}
@@ -30,31 +30,50 @@ use Rattle.log_chain.specs.declared.Told.{Told}
 abbrev pub told-by : List ℕ → Told
 told-by b = record { kind = be32 b 0 / 268435456; own = be32 b 4; batch = be32 b 8; previous = be32 b 12; key = be32 b 20; second = be32 b 24 }
 
--- Bytes of an update of a register of n pages, whose number is own, in order in all but its chain.
-pub record Update (n own : ℕ) (b : List ℕ) : Type 0 where
+-- Bytes of a record of a register of n pages, whose number is own, in order in all but its chain.
+pub record Plain (n own : ℕ) (b : List ℕ) : Type 0 where
   pub reads : read-slot b ≡ full (be32 b 4) (record-fields b)
   pub row : row own (record-fields b) ≡ true
   pub pages : names-pages n (record-fields b) ≡ true
+  pub number : be32 b 4 ≡ own
+
+-- Those of an update.
+pub record Update (n own : ℕ) (b : List ℕ) : Type 0 where
+  pub plain : Plain n own b
   pub least : 2 ≤ be32 b 0 / 268435456
   pub most : be32 b 0 / 268435456 ≤ 3
-  pub number : be32 b 4 ≡ own
 
 -- Slot i, as the program tells of it.
 pub record TellsUpdate (n m : ℕ) (b : List ℕ) (i : ℕ) (t : Told) : Type 0 where
-  pub holds : Update n (suc i) (part b (slot-size * i) slot-size)
+  pub holds : Plain n (suc i) (part b (slot-size * i) slot-size)
   pub told : t ≡ told-by (part b (slot-size * i) slot-size)
   pub least : 2 ≤ t .kind
   pub most : t .kind ≤ 3
 
-pub update-full : (n own : ℕ) (b : List ℕ) → Update n own b → is-empty (read-slot b) ≡ false
+-- The same of a begin or a commit.
+pub record TellsBatch (n m : ℕ) (b : List ℕ) (i : ℕ) (t : Told) : Type 0 where
+  pub holds : Plain n (suc i) (part b (slot-size * i) slot-size)
+  pub told : t ≡ told-by (part b (slot-size * i) slot-size)
+  pub small : t .kind < 16
+
+pub plain-full : (n own : ℕ) (b : List ℕ) → Plain n own b → is-empty (read-slot b) ≡ false
 unfolding is-empty
-update-full n own b u = ap is-empty (u .reads)
+plain-full n own b u = ap is-empty (u .reads)
 
 -- An update's row is its data and no more.
 row-plain : (k own batch previous a key second : ℕ) → 2 ≤ k → k ≤ 3 → row own (data-row (kind-of k) batch previous a key second) ≡ true
 unfolding Run row carries named-only row-says kind-of
 row-plain k own batch previous a key second l h =
     in-run (λ (k : ℕ). row own (data-row (kind-of k) batch previous a key second) ≡ true) 2 2 k (refl, (refl, tt)) l (omega arith)
+
+-- So is a begin's, which names its own number, and a commit's.
+row-begin : (own batch previous a key second : ℕ) → batch ≡ own → previous ≡ 0 → a ≡ 0 → key ≡ 0 → second ≡ 0 → row own (data-row begin batch previous a key second) ≡ true
+unfolding row carries named-only row-says
+row-begin own batch previous a key second eb ep ea ek es = rw (eb, ep, ea, ek, es) (eq-true own own refl)
+
+row-commit : (own batch previous a key second : ℕ) → a ≡ 0 → key ≡ 0 → second ≡ 0 → row own (data-row commit batch previous a key second) ≡ true
+unfolding row carries named-only row-says
+row-commit own batch previous a key second ea ek es = rw (ea, ek, es)
 
 -- The part after the eight words is zero, as the program finds it.
 pub tail-clear : (b : List ℕ) → length b ≡ slot-size → (r : Bool) → r ≡ same-bytes (zeros (length (part b 32 112))) (part b 32 112) → r ≡ true
@@ -76,7 +95,7 @@ module _ (n own : ℕ) (b : List ℕ) (w : Bytes b) (size : length b ≡ slot-si
       let j : 32 + 8 * i + 4 ≡ 32 + (8 * i + 4) = omega arith in
       rw (word-clear (8 * i) (omega arith), j, word-clear (8 * i + 4) (omega arith))
 
-  module _ (x : ℕ) (e : x ≡ be32 b 0) (s : x % 268435456 ≡ 0) (l : 2 ≤ x / 268435456) (h : x / 268435456 ≤ 3) where
+  module _ (x : ℕ) (e : x ≡ be32 b 0) (s : x % 268435456 ≡ 0) (l : 1 ≤ x / 268435456) where
     spare : (be32 b 0 % 1048576 ≡ 0) × (be32 b 0 / 16777216 % 16 ≡ 0) × (be32 b 0 / 1048576 % 16 ≡ 0)
     spare = (omega arith, omega arith, omega arith)
 
@@ -103,37 +122,58 @@ module _ (n own : ℕ) (b : List ℕ) (w : Bytes b) (size : length b ≡ slot-si
         same-false (zeros slot-size) b
         (λ y. omega (arith, ap (λ (v : List ℕ). be32 v 0) (sym y), zeros-word slot-size 0, e, l))
 
-    pub update-so : be32 b 4 ≡ own → Update n own b
+    plain-so : be32 b 4 ≡ own → row own (data-row (kind-of (x / 268435456)) (be32 b 8) (be32 b 12) (be32 b 16 / 4194304) (be32 b 20) (be32 b 24)) ≡ true → Plain n own b
     unfolding names-pages
-    update-so o =
+    plain-so o rows =
         record {
           reads = reads-full b w size not-zero cleared;
-          row = ap (row own) fields ∙ row-plain (x / 268435456) own (be32 b 8) (be32 b 12) (be32 b 16 / 4194304) (be32 b 20) (be32 b 24) l h;
+          row = ap (row own) fields ∙ rows;
           pages =
               ap (names-pages n) fields
               ∙ and-both (lt-true (be32 b 16 / 4194304) n a) (and-both (lt-true 0 n (omega arith)) (lt-true 0 n (omega arith)));
-          least = omega (arith, e, l);
-          most = omega (arith, e, h);
           number = o;
         }
+
+    pub update-so : 2 ≤ x / 268435456 → x / 268435456 ≤ 3 → be32 b 4 ≡ own → Update n own b
+    update-so low high o =
+        record {
+          plain = plain-so o (row-plain (x / 268435456) own (be32 b 8) (be32 b 12) (be32 b 16 / 4194304) (be32 b 20) (be32 b 24) low high);
+          least = omega (arith, e, low);
+          most = omega (arith, e, high);
+        }
+
+    pub begin-so : x / 268435456 ≡ 1 → be32 b 4 ≡ own → be32 b 8 ≡ own → be32 b 12 ≡ 0 → be32 b 16 ≡ 0 → be32 b 20 ≡ 0 → be32 b 24 ≡ 0 → Plain n own b
+    unfolding kind-of
+    begin-so k o batch previous pa key second =
+        plain-so o
+        (ap (λ (j : ℕ). row own (data-row (kind-of j) (be32 b 8) (be32 b 12) (be32 b 16 / 4194304) (be32 b 20) (be32 b 24))) k
+        ∙ row-begin own (be32 b 8) (be32 b 12) (be32 b 16 / 4194304) (be32 b 20) (be32 b 24) batch previous (omega arith) key second)
+
+    pub commit-so : x / 268435456 ≡ 6 → be32 b 4 ≡ own → be32 b 16 ≡ 0 → be32 b 20 ≡ 0 → be32 b 24 ≡ 0 → Plain n own b
+    unfolding kind-of
+    commit-so k o pa key second =
+        plain-so o
+        (ap (λ (j : ℕ). row own (data-row (kind-of j) (be32 b 8) (be32 b 12) (be32 b 16 / 4194304) (be32 b 20) (be32 b 24))) k
+        ∙ row-commit own (be32 b 8) (be32 b 12) (be32 b 16 / 4194304) (be32 b 20) (be32 b 24) (omega arith) key second)
 
 -- What the program tells of slot i, from the words that it reads of the lent part.
 module _ (n m : ℕ) (b : List ℕ) (i : ℕ) where
   abbrev lent : List ℕ
   lent = take (slot-size * i + slot-size - slot-size * i) (drop (slot-size * i) b)
 
-  pub tells-so : Update n (i + 1) lent → (w o t p k s : ℕ) → w ≡ be32 lent 0 → o ≡ be32 lent 4 → t ≡ be32 lent 8 → p ≡ be32 lent 12 → k ≡ be32 lent 20 → s ≡ be32 lent 24
-      → TellsUpdate n m b i (record { kind = w / 268435456; own = o; batch = t; previous = p; key = k; second = s })
-  tells-so u w o t p k s ew eo et ep ek es =
-      record {
-        holds = subst (λ (y : List ℕ). Update n (suc i) y) slot (subst (λ (y : ℕ). Update n y lent) (add-one i) u);
-        told = told-so ∙ ap told-by slot;
-        least = omega (arith, ew, u .least);
-        most = omega (arith, ew, u .most);
-      }
-    where
-      slot : lent ≡ part b (slot-size * i) slot-size
-      slot = ap (λ (k : ℕ). take k (drop (slot-size * i) b)) (add-sub-cancel-left (slot-size * i) slot-size)
+  slot : lent ≡ part b (slot-size * i) slot-size
+  slot = ap (λ (k : ℕ). take k (drop (slot-size * i) b)) (add-sub-cancel-left (slot-size * i) slot-size)
 
-      told-so : record { kind = w / 268435456; own = o; batch = t; previous = p; key = k; second = s } ≡ told-by lent
-      told-so = rw (ew, eo, et, ep, ek, es)
+  in-slot : Plain n (i + 1) lent → Plain n (suc i) (part b (slot-size * i) slot-size)
+  in-slot u = subst (λ (y : List ℕ). Plain n (suc i) y) slot (subst (λ (y : ℕ). Plain n y lent) (add-one i) u)
+
+  module _ (t : Told) (e : t ≡ told-by lent) where
+    pub tells-so : Update n (i + 1) lent → TellsUpdate n m b i t
+    tells-so u =
+        let k : t .kind ≡ be32 lent 0 / 268435456 = ap (λ (y : Told). y .kind) e in
+        record { holds = in-slot (u .plain); told = e ∙ ap told-by slot; least = omega (arith, k, u .least); most = omega (arith, k, u .most) }
+
+    pub tells-batch : Bytes b → Plain n (i + 1) lent → TellsBatch n m b i t
+    tells-batch w u =
+        let few : be32 lent 0 < 2 ^ 32 = be32-lt lent 0 (bytes-take (slot-size * i + slot-size - slot-size * i) (drop (slot-size * i) b) (bytes-drop b (slot-size * i) w)) in
+        record { holds = in-slot u; told = e ∙ ap told-by slot; small = omega (arith, ap (λ (y : Told). y .kind) e, few) }

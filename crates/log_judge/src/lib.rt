@@ -18,7 +18,7 @@ use record_check::pages_ok;
 use record_check::row_ok;
 ghost use mathlib.Core.Path.{_≡_};
 ghost use mathlib.Core.Bool.{true, false};
-ghost use Prim.Native.Nat.{suc, _+_, _*_, _≤_, _<_};
+ghost use Prim.Native.Nat.{ℕ, suc, _+_, _*_, _≤_, _<_};
 ghost use lib.ListN.{length, drop};
 ghost use Rattle.def_layout.specs.Sizes.{slot-size, most-slots};
 ghost use Rattle.def_base.specs.Tests.{every};
@@ -27,7 +27,7 @@ ghost use Rattle.def_model.specs.Log.{is-empty};
 ghost use Rattle.law_bytes.specs.Words.{part};
 ghost use Rattle.law_bytes.specs.LogAreas.{slots-of};
 ghost use Rattle.law_bytes.specs.DeskRows.{LowRows};
-ghost use Rattle.log_judge.specs.Updates.{Update, TellsUpdate};
+ghost use Rattle.log_judge.specs.Updates.{told-by, Plain, Update, TellsUpdate, TellsBatch};
 ghost use Rattle.log_judge.specs.Turns.{in-order, Turns};
 ghost use Rattle.log_judge.specs.Judging.{Judgement};
 ghost use Rattle.log_judge.specs.Accepted.{total};
@@ -68,8 +68,89 @@ fn in_order(s: Slot, own: u32, i: usize, n: usize) -> bool
     pages_ok(s, n)
 }
 
+// Of a slot that tells nothing.
+fn no_told() -> Told
+    ensures { λ t. ⌜ t .kind ≡ 0 ⌝ }
+{
+    Told {
+        kind: 0,
+        own: 0,
+        batch: 0,
+        previous: 0,
+        key: 0,
+        second: 0,
+    }
+}
+
+// What a slot's 144 bytes tell the batch chain.
+fn told_at(b: &[u8]) -> Told
+    requires { ⌜ length (now b) ≡ slot-size ⌝ }
+    ensures { λ t. ⌜ t ≡ told-by (now (b .entry)) ⌝ }
+{
+    Told {
+        kind: get32(b, 0) / 268435456,
+        own: get32(b, 4),
+        batch: get32(b, 8),
+        previous: get32(b, 12),
+        key: get32(b, 20),
+        second: get32(b, 24),
+    }
+}
+
+// Whether 144 bytes hold begin or commit `number`: eight words, and zeros after them.
+fn is_batch(b: &[u8], number: u32) -> bool
+    requires { ⌜ length (now b) ≡ slot-size ⌝ }
+    ensures { λ r. ⌜ (r ≡ true → (n : ℕ) → 0 < n → Plain n number (now (b .entry))) ⌝ }
+{
+    let clear = is_zero(&b[32..SLOT_SIZE]);
+    if get32(b, 4) != number {
+        return false;
+    }
+    if get32(b, 16) != 0 {
+        return false;
+    }
+    if get32(b, 20) != 0 {
+        return false;
+    }
+    if get32(b, 24) != 0 {
+        return false;
+    }
+    if get32(b, 28) != 0 {
+        return false;
+    }
+    let w = get32(b, 0);
+    if w == 1610612736 {
+        return clear;
+    }
+    if w != 268435456 {
+        return false;
+    }
+    if get32(b, 8) != number {
+        return false;
+    }
+    if get32(b, 12) != 0 {
+        return false;
+    }
+    clear
+}
+
+// What a begin or a commit at slot i tells the batch chain; kind 0 where the slot holds neither.
+fn batch_at(log: &[u8], m: usize, n: usize, i: usize) -> Told
+    requires { ⌜ (length (now log) ≡ slot-size * m) × (m ≤ most-slots) × (i < m) ⌝ }
+    ensures { λ t. ⌜ ((t .kind ≡ 0 → ⊥) → TellsBatch n m (now (log .entry)) i t) ⌝ }
+{
+    let b = &log[SLOT_SIZE * i..SLOT_SIZE * i + SLOT_SIZE];
+    if n == 0 {
+        return no_told();
+    }
+    if !is_batch(b, (i + 1) as u32) {
+        return no_told();
+    }
+    told_at(b)
+}
+
 // Slot i of a register of n pages: "a slot breaks its row, number or batch chain, or names an A, B or C not below the page count".
-fn judge_slot(log: &[u8], m: usize, n: usize, i: usize, rows: [Row; 8], marked: [bool; 8]) -> Judged
+fn judge_long(log: &[u8], m: usize, n: usize, i: usize, rows: [Row; 8], marked: [bool; 8]) -> Judged
     requires { ⌜ (length (now log) ≡ slot-size * m) × (m ≤ most-slots) × (i < m) × LowRows rows ⌝ }
     ensures { λ r. ⌜ Turns n m (now (log .entry)) i rows marked r ⌝ }
 {
@@ -104,6 +185,18 @@ fn judge_slot(log: &[u8], m: usize, n: usize, i: usize, rows: [Row; 8], marked: 
         second,
     };
     step(log, m, rows, marked, t)
+}
+
+// The same: a begin or a commit by its words, all else the long way.
+fn judge_slot(log: &[u8], m: usize, n: usize, i: usize, rows: [Row; 8], marked: [bool; 8]) -> Judged
+    requires { ⌜ (length (now log) ≡ slot-size * m) × (m ≤ most-slots) × (i < m) × LowRows rows ⌝ }
+    ensures { λ r. ⌜ Turns n m (now (log .entry)) i rows marked r ⌝ }
+{
+    let t = batch_at(log, m, n, i);
+    if t.kind != 0 {
+        return step(log, m, rows, marked, t);
+    }
+    judge_long(log, m, n, i, rows, marked)
 }
 
 // Whether 144 bytes hold insert or delete number `own` on a page below n: eight words, and zeros after them.
@@ -144,23 +237,9 @@ fn update_at(log: &[u8], m: usize, n: usize, i: usize) -> Told
 {
     let b = &log[SLOT_SIZE * i..SLOT_SIZE * i + SLOT_SIZE];
     if !is_update(b, (i + 1) as u32, n) {
-        return Told {
-            kind: 0,
-            own: 0,
-            batch: 0,
-            previous: 0,
-            key: 0,
-            second: 0,
-        };
+        return no_told();
     }
-    Told {
-        kind: get32(b, 0) / 268435456,
-        own: get32(b, 4),
-        batch: get32(b, 8),
-        previous: get32(b, 12),
-        key: get32(b, 20),
-        second: get32(b, 24),
-    }
+    told_at(b)
 }
 
 fn empty_slot(log: &[u8], m: usize, i: usize) -> bool

@@ -2,7 +2,7 @@
 use mathlib.Core.Path.{_≡_, refl, ap, ap₂, sym, _∙_}
 use Prim.Native.Nat.{ℕ, suc, _+_, _-_, _<_}
 use native.Mathlib.Omega.{arith}
-use mathlib.Core.Bool.{Bool, not, _&&_}
+use mathlib.Core.Bool.{Bool, _&&_}
 use mathlib.Core.List.{List}
 use lib.ListN.{length, take, drop}
 use lib.Dec.{ltb, leb, eqb}
@@ -17,8 +17,7 @@ use Rattle.codec_entries.specs.Arrays.{used-take}
 use Rattle.codec_page.specs.declared.Page as program
 use Rattle.codec_page.specs.Typed.{typed}
 use Rattle.law_bytes.specs.PageKinds.{kind-tested}
-use Rattle.def_model.specs.Change.{first-key}
-use Rattle.def_model.specs.Fit.{found, found-value, after, last-key-is, link-fits, side-by-side, is-leaf, is-index, is-node, at-level, children-in, fits-a, fits-b}
+use Rattle.def_model.specs.Fit.{found, found-value, nowhere, in-order, last-key-is, link-fits, side-by-side, is-leaf, is-index, is-node, at-level, children-in, fits-a, fits-b}
 use Rattle.record_apply.specs.declared.Record.{Record}
 use Rattle.record_apply.specs.Pages.{rec}
 
@@ -69,15 +68,15 @@ module _ (r : Record) (x : program.Page) (n : ℕ) (e : typed x .entries ≡ use
   pub m-is : length (used m fs) ≡ m
   m-is = tab-length m (entry-at fs)
 
-  new-row : is-leaf (typed x) && (leb (length (typed x .entries) + 1) 14 && not (found (look (r .key) (typed x .entries))))
-      ≡ is-leaf (typed x) && (leb (n + 1) 14 && not (found (look (r .key) (used n es))))
+  new-row : is-leaf (typed x) && (leb (length (typed x .entries) + 1) 14 && nowhere (r .key) (typed x .entries))
+      ≡ is-leaf (typed x) && (leb (n + 1) 14 && nowhere (r .key) (used n es))
   new-row = rw (n-is, e)
 
-  pub insert-row : fits-a insert (rec r) (typed x) ≡ is-leaf (typed x) && (leb (n + 1) 14 && not (found (look (r .key) (used n es))))
+  pub insert-row : fits-a insert (rec r) (typed x) ≡ is-leaf (typed x) && (leb (n + 1) 14 && nowhere (r .key) (used n es))
   unfolding fits-a
   insert-row = new-row
 
-  pub undo-delete-row : fits-a undo-delete (rec r) (typed x) ≡ is-leaf (typed x) && (leb (n + 1) 14 && not (found (look (r .key) (used n es))))
+  pub undo-delete-row : fits-a undo-delete (rec r) (typed x) ≡ is-leaf (typed x) && (leb (n + 1) 14 && nowhere (r .key) (used n es))
   unfolding fits-a
   undo-delete-row = new-row
 
@@ -106,7 +105,7 @@ module _ (r : Record) (x : program.Page) (n : ℕ) (e : typed x .entries ≡ use
   unlink-row = rw e
 
   pub merge-row : fits-a merge (rec r) (typed x)
-      ≡ is-node (typed x) && (leb (n + m) 14 && (eqb (x .right) (r .b) && (leb (after 0 (used n es)) (first-key (used m fs)) && children-in (typed x) (used m fs))))
+      ≡ is-node (typed x) && (leb (n + m) 14 && (eqb (x .right) (r .b) && (in-order (used n es) (used m fs) && children-in (typed x) (used m fs))))
   unfolding fits-a
   merge-row = rw (n-is, e, m-is, right-is x)
 

@@ -12,7 +12,7 @@ use Rattle.law_bytes.specs.EntryBytes.{used}
 use Rattle.codec_page.specs.declared.Page as program
 use Rattle.codec_page.specs.Typed.{typed}
 use Rattle.def_model.specs.Change.{into-a}
-use Rattle.def_model.specs.Fit.{last-key-is, is-node, children-in, share-fits-a, share-fits-b, fits-a, fits-b}
+use Rattle.def_model.specs.Fit.{in-order, last-key-is, is-node, children-in, share-fits-a, share-fits-b, fits-a, fits-b}
 use Rattle.record_apply.specs.declared.Record.{Record}
 use Rattle.record_apply.specs.Pages.{rec}
 use Rattle.record_fit.specs.Pages.{right-is, n-is, m-is, last-kept}
@@ -31,7 +31,7 @@ module _ (r : Record) (x : program.Page) (n : ℕ) (e : typed x .entries ≡ use
   unfolding fits-a
   share-row = rw (right-is x)
 
-  pub share-in-row : into-a (rec r) ≡ true → share-fits-a (into-a (rec r)) (rec r) (typed x) ≡ leb (n + m) 14 && (last-key-is (r .key) (used n es ++ used m fs) && children-in (typed x) (used m fs))
+  pub share-in-row : into-a (rec r) ≡ true → share-fits-a (into-a (rec r)) (rec r) (typed x) ≡ leb (n + m) 14 && (last-key-is (r .key) (used n es ++ used m fs) && (in-order (used n es) (used m fs) && children-in (typed x) (used m fs)))
   unfolding share-fits-a
   share-in-row t = rw (t, n-is r x n e, e, m-is r x n e)
 
@@ -44,9 +44,9 @@ module _ (r : Record) (x : program.Page) (n : ℕ) (e : typed x .entries ≡ use
   unfolding share-fits-b
   share-b-in-row t = rw (t, e, m-is r x n e)
 
-  pub share-b-out-row : into-a (rec r) ≡ false → share-fits-b (into-a (rec r)) (rec r) (typed x) ≡ leb (n + m) 14 && children-in (typed x) (used m fs)
+  pub share-b-out-row : into-a (rec r) ≡ false → share-fits-b (into-a (rec r)) (rec r) (typed x) ≡ leb (n + m) 14 && (in-order (used m fs) (used n es) && children-in (typed x) (used m fs))
   unfolding share-fits-b
-  share-b-out-row t = rw (t, n-is r x n e, m-is r x n e)
+  share-b-out-row t = rw (t, n-is r x n e, e, m-is r x n e)
 
   pub merge-b-row : fits-b merge (rec r) (typed x) ≡ is-node (typed x) && (same-entries (used n es) (used m fs) && eqb (x .right) (r .right))
   unfolding fits-b

@@ -19,7 +19,6 @@ use Rattle.law_bytes.specs.Tables.{tab-length}
 use Rattle.law_bytes.specs.EntryBytes.{used, used-in}
 use Rattle.codec_entries.specs.Places.{look-here, look-other, look-past}
 use Rattle.codec_entries.specs.Arrays.{used-take}
-use Rattle.def_model.specs.Change.{first-key}
 use Rattle.def_model.specs.Fit.{found, found-value, after, last-key-is, link-fits, side-by-side}
 
 -- Two tests, named so that a proof can go by their parts.
@@ -141,11 +140,6 @@ module _ (n : ℕ) (es : List Entry) where
       append-nil : (l : List Entry) → l ++ [] ≡ l
       append-nil [] = refl
       append-nil (e ∷ l) = ap (λ (r : List Entry). e ∷ r) (append-nil l)
-
--- The first key is that of the first entry.
-pub first-is : (l : List Entry) (e : Entry) → e ≡ entry-at l 0 → e .key ≡ first-key l
-first-is [] e q = ap (λ (x : Entry). x .key) q
-first-is (f ∷ l) e q = ap (λ (x : Entry). x .key) q
 
 -- ---- parts of the entries
 

@@ -1,4 +1,5 @@
 pub mod Slots
 pub mod Outcomes
+pub mod AtOnce
 pub mod Pairs
 pub mod Logs

@@ -1,14 +1,15 @@
 -- A log area that shows records, and their redo one record after the other.
 use mathlib.Core.Path.{_≡_, refl, ap, sym, _∙_, subst}
-use Prim.Native.Nat.{ℕ, zero, suc, _+_, _<_}
+use Prim.Native.Nat.{ℕ, zero, suc, _+_, _<_, _≤_}
 use native.Mathlib.Omega.{arith}
 use mathlib.Core.Bool.{true, false}
 use mathlib.Core.List.{List, [], _∷_, _++_}
 use lib.ListN.{length, getD, take, drop}
 use lib.Seq.{split-at, take-suc, take-length, getD-take, length-take-le}
 use Rattle.def_layout.specs.Pages.{Page}
-use Rattle.def_layout.specs.Records.{Rec}
-use Rattle.def_layout.specs.RecordBytes.{Slot, empty, full}
+use Rattle.def_layout.specs.Records.{Rec, begin, batch-row}
+use Rattle.def_layout.specs.RecordBytes
+use Rattle.def_layout.specs.RecordBytes.{empty, full}
 use Rattle.def_model.specs.Log.{slots-from}
 use Rattle.def_model.specs.Redo.{redo-record, replay, redo-count, redo-fits}
 use Rattle.law_bytes.specs.LogAreas.{slots-of}
@@ -30,6 +31,9 @@ pub record Logged (m : ℕ) (area : List ℕ) (l : List Rec) : Type 0 where
 
 -- ---- a record by its place
 
+no-rec : Rec
+no-rec = batch-row begin 0 0
+
 slot-from : (n : ℕ) (l : List Rec) (i : ℕ) (d : Rec) → i < length l → getD (slots-from n l) i empty ≡ full (n + i) (getD l i d)
 unfolding slots-from
 slot-from n [] i d h = absurd (omega arith)
@@ -47,14 +51,11 @@ fit-at n (r ∷ l) (suc i) d h f =
     subst (λ (k : ℕ). Fits k (getD l i d)) e (fit-at (suc n) l i d (omega arith) (f .1))
 
 module _ {m : ℕ} {area : List ℕ} (l : List Rec) (g : Logged m area l) (i : ℕ) (h : i < length l) where
-  -- The program's record is the log's.
-  pub told : (d : Rec) (r : Record) → Tells m area i r → rec r ≡ getD l i d
-  told d r t =
-      t (1 + i) (getD l i d)
-      (sym (getD-take (length l) (slots-of m area) i empty h) ∙ ap (λ (s : List Slot). getD s i empty) (g .slots) ∙ slot-from 1 l i d h)
-      (fit-at 1 l i d h (g .fits) .count)
+  -- It stands in its slot.
+  pub stands-at : (d : Rec) → getD (slots-of m area) i empty ≡ full (1 + i) (getD l i d)
+  stands-at d = sym (getD-take (length l) (slots-of m area) i empty h) ∙ ap (λ (s : List RecordBytes.Slot). getD s i empty) (g .slots) ∙ slot-from 1 l i d h
 
-  keeps-at : (d : Rec) → Keeps (i + 1) (getD l i d)
+  pub keeps-at : (d : Rec) → Keeps (i + 1) (getD l i d)
   keeps-at d p x f =
       let w : Fits (1 + i) (getD l i d) = fit-at 1 l i d h (g .fits) in
       act-fits p (i + 1) (getD l i d) x (omega (arith, w .own)) (slot-narrow (1 + i) (getD l i d) w) f
@@ -91,21 +92,30 @@ pub no-turn : (n m logged : ℕ) (pages log : List ℕ) → Turned n m logged pa
 unfolding replay redo-count redo-fits
 no-turn n m logged pages log xs l h g e = none-answers xs h
 
-module _ {n m : ℕ} {area before after : List ℕ} (i count : ℕ) (r : Record) (d : Redone)
-    (t : Tells m area i r) (a : (ys : List Page) → Pages n before ys → Keeps (i + 1) (rec r) → Answers n after d (one-record (i + 1) (rec r) ys)) where
+-- One turn, of whatever record stands in slot i.
+abbrev pub Slot : ℕ → ℕ → List ℕ → List ℕ → ℕ → List ℕ → Redone → Type 0
+Slot n m before area i after d =
+    (xs : List Page) (own : ℕ) (q : Rec) → Pages n before xs → getD (slots-of m area) i empty ≡ full own q → length (q .entries) ≤ 14 → Keeps (i + 1) q
+    → Answers n after d (one-record (i + 1) q xs)
+
+-- The long way does it, on pages that are as they were.
+pub long-way : {n : ℕ} {before mid after : List ℕ} (m i : ℕ) (area : List ℕ) (r : Record) (d : Redone) → Tells m area i r → mid ≡ before
+    → ((xs : List Page) → Pages n mid xs → Keeps (i + 1) (rec r) → Answers n after d (one-record (i + 1) (rec r) xs)) → Slot n m before area i after d
+long-way {n} {after = after} m i area r d tells same a xs own q shows stands few keeps =
+    let e : rec r ≡ q = tells own q stands few in
+    subst (λ (x : Rec). Answers n after d (one-record (i + 1) x xs)) e (a xs (subst (λ (b : List ℕ). Pages n b xs) (sym same) shows) (subst (Keeps (i + 1)) (sym e) keeps))
+
+module _ {n m : ℕ} {area before after : List ℕ} (i count : ℕ) (d : Redone) (turn : Slot n m before area i after d) where
   module _ (xs : List Page) (l : List Rec) (g : Logged m area l) (h : i < length l)
       (s : Answers n before (record { fits = true; count = count }) (whole 1 (take i l) xs)) where
     abbrev q : Rec
-    q = getD l i (rec r)
-
-    this : rec r ≡ q
-    this = told l g i h (rec r) r t
+    q = getD l i no-rec
 
     abbrev ys : List Page
     ys = replay 1 (take i l) xs
 
     one : Answers n after d (one-record (i + 1) q ys)
-    one = subst (λ (x : Rec). Answers n after d (one-record (i + 1) x ys)) this (a ys (s .pages refl) (subst (Keeps (i + 1)) (sym this) (keeps-at l g i h (rec r))))
+    one = turn ys (1 + i) q (s .pages refl) (stands-at l g i h no-rec) (fit-at 1 l i no-rec h (g .fits) .count) (keeps-at l g i h no-rec)
 
     number : 1 + length (take i l) ≡ i + 1
     number = omega (arith, length-take-le i l (omega arith))
@@ -115,7 +125,7 @@ module _ {n m : ℕ} {area before after : List ℕ} (i count : ℕ) (r : Record)
         let e : suc i ≡ i + 1 = omega arith in
         let w : followed (whole 1 (take i l) xs) (one-record (i + 1) q ys) ≡ whole 1 (take (i + 1) l) xs =
         sym (ap (λ (k : ℕ). whole 1 (take k l) xs) (sym e)
-        ∙ ap (λ (z : List Rec). whole 1 z xs) (take-suc l i (rec r) h)
+        ∙ ap (λ (z : List Rec). whole 1 z xs) (take-suc l i no-rec h)
         ∙ whole-append 1 (take i l) (q ∷ []) xs
         ∙ ap (followed (whole 1 (take i l) xs)) (record-alone (1 + length (take i l)) q ys ∙ ap (λ (k : ℕ). one-record k q ys) number)) in
         subst (Answers n after (record { fits = true; count = count + d .count })) w (both-answer (record { fits = true; count = count }) (whole 1 (take i l) xs) s refl d (one-record (i + 1) q ys) one f)
@@ -125,7 +135,7 @@ module _ {n m : ℕ} {area before after : List ℕ} (i count : ℕ) (r : Record)
         let rest : List Rec = drop (suc i) l in
         let zs : List Page = redo-record (i + 1) q ys in
         let w : followed (whole 1 (take i l) xs) (followed (one-record (i + 1) q ys) (whole (suc (i + 1)) rest zs)) ≡ whole 1 l xs =
-        sym (ap (λ (z : List Rec). whole 1 z xs) (split-at l i (rec r) h)
+        sym (ap (λ (z : List Rec). whole 1 z xs) (split-at l i no-rec h)
         ∙ whole-append 1 (take i l) (q ∷ rest) xs
         ∙ ap (followed (whole 1 (take i l) xs)) (ap (λ (k : ℕ). whole k (q ∷ rest) ys) number ∙ record-first (i + 1) q rest ys)) in
         subst (Answers n after d) w

@@ -29,7 +29,7 @@ is-full empty = false
 is-full (full n r) = true
 is-full (other b) = false
 
-full-record : {m n : ℕ} {q r : Rec} → full m q ≡ full n r → q ≡ r
+pub full-record : {m n : ℕ} {q r : Rec} → full m q ≡ full n r → q ≡ r
 full-record {q = q} e = ap (λ (s : Slot). elim s [ empty ↦ q | full n r ↦ r | other b ↦ q ]) e
 
 pub past-tells : (m i : ℕ) (area : List ℕ) (r : Record) → m ≤ i → Tells m area i r

@@ -1,20 +1,23 @@
 // Restart's redo of a whole log: each record at its pages, judged page by page, with the count of the page changes that it applied.
+use codec_bytes::get32;
 use codec_slot::Header;
 use codec_slot::read_at;
 use def_layout::Entry;
 use def_layout::MOST_ENTRIES;
+use def_layout::PAGE_SIZE;
 use def_layout::ROOM;
 use def_layout::SLOT_SIZE;
 use record_apply::Record;
 use record_apply::apply;
 use record_apply::parts;
 use record_fit::fits;
+use record_leaf::slide_made;
 use record_pages::page_at;
 use record_pages::put_page;
 ghost use mathlib.Core.Path.{_≡_};
-ghost use mathlib.Core.Bool.{false};
+ghost use mathlib.Core.Bool.{true, false};
 ghost use mathlib.Core.List.{List};
-ghost use Prim.Native.Nat.{_+_, _*_, _≤_};
+ghost use Prim.Native.Nat.{_+_, _*_, _≤_, _<_};
 ghost use lib.ListN.{length};
 ghost use Rattle.def_layout.specs.Sizes.{page-size, slot-size, most-pages, most-slots, room};
 ghost use Rattle.def_layout.specs.Pages as layout;
@@ -22,8 +25,9 @@ ghost use Rattle.def_layout.specs.Records.{Rec};
 ghost use Rattle.record_apply.specs.Pages.{rec};
 ghost use Rattle.record_pages.specs.Pages.{Pages};
 ghost use Rattle.record_pages.specs.Records.{Keeps};
-ghost use Rattle.record_redo.specs.Logs.{Logged};
+ghost use Rattle.record_redo.specs.Logs.{Logged, Slot};
 ghost use Rattle.record_redo.specs.Slots.{Tells};
+ghost use Rattle.record_redo.specs.AtOnce.{Done};
 ghost use Rattle.record_redo.specs.Outcomes.{Outcome, Answers, pair, part, followed, one-record, whole};
 
 // Whether every change that was reached fits its page, and how many of them were applied.
@@ -177,6 +181,88 @@ pub fn redo_places(pages: &mut [u8], n: usize, r: Record, k: u32) -> Redone
     redo_part(pages, n, r, k, bits % 2 == 1, 0, c)
 }
 
+// What was done at once: whether anything was, and how many page changes that was.
+struct AtOnce {
+    done: bool,
+    count: u32,
+}
+
+fn not_yet() -> AtOnce
+    ensures { λ d. ⌜ (d .done ≡ false) × (d .count ≡ 0) ⌝ }
+{
+    AtOnce {
+        done: false,
+        count: 0,
+    }
+}
+
+fn at_once(count: u32) -> AtOnce
+    ensures { λ d. ⌜ (d .done ≡ true) × (d .count ≡ count) ⌝ }
+{
+    AtOnce { done: true, count }
+}
+
+// An insert or delete, record number i + 1, at the bytes of its page: the page is newer, or it is one that the change starts from.
+fn redo_slide(pages: &mut [u8], n: usize, log: &[u8], m: usize, i: usize) -> AtOnce
+    requires { ⌜ (length (now pages) ≡ page-size * n) × (n ≤ most-pages) × (length (now log) ≡ slot-size * m) × (m ≤ most-slots) × (i < m) ⌝ }
+    ensures { λ d. ⌜ (d .count ≤ 1) × (d .done ≡ false → now (pages .exit) ≡ now (pages .entry)) × (d .done ≡ true → Done n m (now (pages .entry)) (now (log .entry)) i (now (pages .exit)) (d .count)) ⌝ }
+{
+    let s = &log[SLOT_SIZE * i..SLOT_SIZE * i + SLOT_SIZE];
+    let kind = get32(s, 0) / 268435456;
+    let a = (get32(s, 16) / 4194304) as usize;
+    if kind < 2 {
+        return not_yet();
+    }
+    if kind > 3 {
+        return not_yet();
+    }
+    if a >= n {
+        return not_yet();
+    }
+    let own = (i + 1) as u32;
+    let page = &pages[PAGE_SIZE * a..PAGE_SIZE * a + PAGE_SIZE];
+    if get32(page, 8) >= own {
+        return at_once(0);
+    }
+    let key = get32(s, 20);
+    let second = get32(s, 24);
+    let b = &mut pages[PAGE_SIZE * a..PAGE_SIZE * a + PAGE_SIZE];
+    if !slide_made(b, kind, own, key, second) {
+        return not_yet();
+    }
+    at_once(1)
+}
+
+// The record in slot i, number i + 1: at once where that can be, else the long way. A begin and a commit change no page.
+fn redo_slot(pages: &mut [u8], n: usize, log: &[u8], m: usize, i: usize) -> Redone
+    requires { ⌜ (length (now pages) ≡ page-size * n) × (n ≤ most-pages) × (length (now log) ≡ slot-size * m) × (m ≤ most-slots) × (i < m) ⌝ }
+    ensures { λ d. ⌜ (d .count ≤ 4) × Slot n m (now (pages .entry)) (now (log .entry)) i (now (pages .exit)) d ⌝ }
+{
+    let s = &log[SLOT_SIZE * i..SLOT_SIZE * i + SLOT_SIZE];
+    let kind = get32(s, 0) / 268435456;
+    if kind == 1 {
+        return Redone {
+            fits: true,
+            count: 0,
+        };
+    }
+    if kind == 6 {
+        return Redone {
+            fits: true,
+            count: 0,
+        };
+    }
+    let x = redo_slide(pages, n, log, m, i);
+    if x.done {
+        return Redone {
+            fits: true,
+            count: x.count,
+        };
+    }
+    let r = record_at(log, m, i);
+    redo_places(pages, n, r, (i + 1) as u32)
+}
+
 // The first `logged` records of a log, each at its pages, up to the first that does not fit.
 pub fn redo_log(pages: &mut [u8], log: &[u8], n: usize, m: usize, logged: u32) -> Redone
     requires { ⌜ (length (now pages) ≡ page-size * n) × (n ≤ most-pages) × (length (now log) ≡ slot-size * m) × (m ≤ most-slots) × (logged ≤ m) ⌝ }
@@ -185,8 +271,7 @@ pub fn redo_log(pages: &mut [u8], log: &[u8], n: usize, m: usize, logged: u32) -
     let mut count: u32 = 0;
     let mut i: u32 = 0;
     while i < logged {
-        let r = record_at(log, m, i as usize);
-        let d = redo_places(pages, n, r, i + 1);
+        let d = redo_slot(pages, n, log, m, i as usize);
         if !d.fits {
             return d;
         }

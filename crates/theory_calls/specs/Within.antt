@@ -1,5 +1,6 @@
 -- Runs keep within the slots: what an update or an abort logs is taken off its room.
 use Prim.Native.Nat.{ℕ}
+use mathlib.Core.Path.{_≡_}
 use mathlib.Core.Bool.{Bool, true, false}
 use mathlib.Core.List.{List, [], _∷_}
 use Rattle.def_layout.specs.Records.{Kind, undo-insert, undo-delete}
@@ -9,8 +10,8 @@ use Rattle.def_model.specs.Undo.{undo-by, undo-line, undo-lines, end-batch, abo
 use Rattle.theory_update.specs.Run.Keeps.{keep-find-add, keep-find-remove}
 use Rattle.theory_room.specs.Reasons.{Within, emit-within}
 
-stop-within : (m : ℕ) (s : Run) → Within m s → Within m (stopped 18 s)
-stop-within m s w = w
+stop-within : (m : ℕ) (s : Run) → s .stop ≡ 0 → Within m s → Within m (stopped 18 s)
+stop-within m s z w = w
 
 pub put-within : (m : ℕ) (kind : Kind) (batch previous k v : ℕ) (s : Run) → Within m s → Within m (put-record kind batch previous k v s)
 unfolding put-record

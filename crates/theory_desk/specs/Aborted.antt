@@ -57,8 +57,8 @@ module _ (n : ℕ) (others : List Batch) where
 
   beside-undo : (a : Bool) (next : ℕ) (l : Line) (s : Run) → Beside s → Beside (undo-by a n next l s)
   unfolding undo-by put-record remove-record tell undone
-  beside-undo true next l s i = beside-emit _ _ (λ m bs. drop-change n (undone m) bs (λ b. refl)) (keep-find-remove Beside beside-tree (λ t j. j) _ (l .key) s i)
-  beside-undo false next l s i = beside-emit _ _ (λ m bs. drop-change n (undone m) bs (λ b. refl)) (keep-find-add Beside beside-tree (λ t j. j) (l .key) s i)
+  beside-undo true next l s i = beside-emit _ _ (λ m bs. drop-change n (undone m) bs (λ b. refl)) (keep-find-remove Beside beside-tree (λ t z j. j) _ (l .key) s i)
+  beside-undo false next l s i = beside-emit _ _ (λ m bs. drop-change n (undone m) bs (λ b. refl)) (keep-find-add Beside beside-tree (λ t z j. j) (l .key) s i)
 
   beside-lines : (ls : List Line) (s : Run) → Beside s → Beside (undo-lines n ls s)
   unfolding undo-lines undo-line

@@ -11,7 +11,7 @@ use Rattle.def_layout.specs.declared.Entry.{Entry}
 use Rattle.def_layout.specs.Entries.{same-entries}
 use Rattle.def_layout.specs.Pages.{page-kind-number, kind-is, Page, kind-at, at}
 use Rattle.def_layout.specs.Records.{Rec}
-use Rattle.def_model.specs.Change.{first-key, Role, as-a, as-b, as-c, as-map, shape, role}
+use Rattle.def_model.specs.Change.{Role, as-a, as-b, as-c, as-map, shape, role}
 use Rattle.def_model.specs.Fit.{after, link-fits, side-by-side, is-leaf, is-index, is-node, at-level, fits-role, fits}
 use Rattle.def_model.specs.TreeRules.{Node}
 use Rattle.theory_tree.specs.Order.Keys.{Rising, rising-mid}
@@ -118,8 +118,3 @@ leaf-test x next n i = rw (i .kind)
 pub index-not-leaf : (x : Page) (l next : ℕ) (n : Node) → IsNode x (suc l) next n → is-leaf x ≡ false
 unfolding kind-is page-kind-number
 index-not-leaf x l next n i = rw (i .kind, eqb·suc-zero l)
-
-pub first-rises : (from : ℕ) (es : List Entry) → Rising from es → 0 < length es → from ≤ first-key es
-unfolding Rising
-first-rises from [] r l = absurd (omega arith)
-first-rises from (e ∷ es) r l = r .0

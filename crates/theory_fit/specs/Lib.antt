@@ -1,4 +1,8 @@
 pub mod Judging
+pub mod Exactly
+pub mod Among
+pub mod Meaning
+pub mod Order
 pub mod Children
 pub mod Clean
 pub mod StepFits

@@ -16,8 +16,8 @@ use Rattle.def_layout.specs.Records.{Kind, Rec, batch-row, data-row, split-row,
 use Rattle.def_model.specs.Change.{first-key, kept}
 use Rattle.def_model.specs.Fit.{found, found-value, children-in, after, link-fits, side-by-side, share-fits-a, share-fits-b, fits-a, fits-b, fits-map, fits-role, fits}
 use Rattle.def_model.specs.TreeRules.{Node, flat, first-page, least}
-use Rattle.theory_tree.specs.Order.Keys.{Rising, after-append, rising-weaken, after-mono}
-use Rattle.theory_tree.specs.Shape.Levels.{Match, ChainOk, ends-le, chain-cut, chain-from-of, match-from}
+use Rattle.theory_tree.specs.Order.Keys.{Rising, after-append, rising-cut, rising-weaken, after-mono}
+use Rattle.theory_tree.specs.Shape.Levels.{Match, ChainOk, chain-cut, chain-from-of, match-from, node-rises}
 use Rattle.theory_tree.specs.Change.LevelChanges.{Splits}
 use Rattle.theory_tree.specs.Shape.Chains.{IsNode, All}
 use Rattle.theory_tree.specs.Shape.Trees.{is-bottom, Levels, Joined, joined-cut, Every, levels-at, every-cut, all-cut, page-at}
@@ -25,13 +25,14 @@ use Rattle.theory_tree.specs.Change.Split.{left-half, right-half}
 use Rattle.theory_tree.specs.Change.Merge.{merged}
 use Rattle.theory_tree.specs.Change.Share.{shared-left, shared-right}
 use Rattle.theory_tree.specs.Shape.Marks.{Gives}
-use Rattle.theory_tree.specs.Shape.Sizes.{Sized, sizes-below}
+use Rattle.theory_tree.specs.Shape.Sizes.{Sized}
 use Rattle.theory_tree.specs.Shape.Rules.{Marked, Rooted, Rules}
 use Rattle.theory_tree.specs.Shape.Height.{height}
 use Rattle.theory_tree.specs.Step.Steps.{Adding, by-insert, by-undo-delete, Removing, by-delete, by-undo-insert, Noting, by-begin, by-commit, by-mark, by-end, Step, splits, links, unlinks, merges, shares, raises, lowers, puts, cuts, notes}
 use Rattle.theory_tree.specs.Step.Parts.{under}
 use Rattle.theory_update.specs.Find.Places.{index-node}
-use Rattle.theory_fit.specs.Judging.{role-cases, entries-self, entries-same, cancel-left, cancel-size, take-all, tail-cut, link-fit, side-fit, level-test, node-test, index-test, leaf-test, first-rises}
+use Rattle.theory_fit.specs.Judging.{role-cases, entries-self, entries-same, cancel-left, cancel-size, take-all, tail-cut, link-fit, side-fit, level-test, node-test, index-test, leaf-test}
+use Rattle.theory_fit.specs.Order.{nowhere-looked, in-order-rising, after-part, side-by-side-rises}
 use Rattle.theory_fit.specs.Children.{node-bits, below-of, children-part}
 use Rattle.theory_fit.specs.Clean.{Clean}
 
@@ -100,20 +101,14 @@ module _ (pages : List Page) (small : length pages ≤ map-bits) (clean : Clean 
       → length (q .items ++ r .items) ≤ room
       → Rules pages (ups ++ u ∷ (bs ++ q ∷ r ∷ cs) ∷ downs) → (p : ℕ)
       → fits p (merge-row (q .page) (r .page) (r .high) (first-page cs 0) (r .items)) (at pages p) ≡ true
-  unfolding fits-role fits-a fits-b fits-map ChainOk All first-page
+  unfolding fits-role fits-a fits-b fits-map All first-page
   merge-passes ups u bs q r cs downs space k p =
       let lv = subst (Levels pages) (sym (under ups u (bs ++ q ∷ r ∷ cs) downs)) (k .levels) in
       let jn = subst Joined (sym (under ups u (bs ++ q ∷ r ∷ cs) downs)) (k .joined) in
       let sa : (bs ++ q ∷ []) ++ r ∷ cs ≡ bs ++ q ∷ r ∷ cs = append-assoc bs (q ∷ []) (r ∷ cs) in
       let i = page-at pages (ups ++ u ∷ []) bs q (r ∷ cs) downs lv .2 in
       let j = page-at pages (ups ++ u ∷ []) (bs ++ q ∷ []) r cs downs (subst (λ z. Levels pages ((ups ++ u ∷ []) ++ z ∷ downs)) (sym sa) lv) .2 in
-      let b = is-bottom (length downs) in
-      let c = chain-cut b 0 bs (q ∷ r ∷ cs) (suc top) (levels-at pages (ups ++ u ∷ []) (bs ++ q ∷ r ∷ cs) downs lv .chain) in
-      let e₁ = ends-le b (after (c .mid) (q .items)) (q .high) (c .right .0 .ends) in
-      let am = after-mono 0 (c .mid) (q .items) (omega arith) in
-      let (s₁, sq, s₂) = all-cut (Sized least) bs q (r ∷ cs) (sizes-below ups u (bs ++ q ∷ r ∷ cs) downs (k .sizes)) in
-      let sr = s₂ .0 .1 in
-      let fk = first-rises (suc (q .high)) (r .items) (c .right .1 .0 .rises) (omega arith) in
+      let (qe, rr) = side-by-side-rises (is-bottom (length downs)) 0 bs q r cs (suc top) (levels-at pages (ups ++ u ∷ []) (bs ++ q ∷ r ∷ cs) downs lv .chain) in
       let ln = length-append (q .items) (r .items) in
       let bits = node-bits pages (bs ++ q ∷ []) r cs downs (at pages (q .page)) (r .page) q small
       (below-of pages (ups ++ u ∷ []) ((bs ++ q ∷ []) ++ r ∷ cs) downs (subst (λ z. Levels pages ((ups ++ u ∷ []) ++ z ∷ downs)) (sym sa) lv))
@@ -125,7 +120,7 @@ module _ (pages : List Page) (small : length pages ≤ map-bits) (clean : Clean 
         i .items,
         le-true (length (q .items) + length (r .items)) room (omega arith),
         eq-true (at pages (q .page) .right) (r .page) (i .right),
-        le-true (after 0 (q .items)) (first-key (r .items)) (omega arith),
+        in-order-rising (q .items) (suc (q .high)) (r .items) qe rr,
       ) bits)
       (λ z. rw (node-test (at pages (r .page)) (length downs) (first-page cs 0) r j, j .items, entries-self (r .items), eq-true (at pages (r .page) .right) (first-page cs 0) (j .right)))
       (λ z. clash (sym z)) (λ z. mk)
@@ -162,6 +157,10 @@ module _ (pages : List Page) (small : length pages ≤ map-bits) (clean : Clean 
       q-bits : children-in (at pages (r .page)) (q .items) ≡ true
       q-bits = node-bits pages bs q (r ∷ cs) downs (at pages (r .page)) (first-page cs 0) r small below fitted j
 
+      -- The first page's entries end where the second's cover begins, or before.
+      side : (after 0 (q .items) ≤ suc (q .high)) × Rising (suc (q .high)) (r .items)
+      side = side-by-side-rises (is-bottom (length downs)) 0 bs q r cs (suc top) (levels-at pages (ups ++ u ∷ []) (bs ++ q ∷ r ∷ cs) downs lv .chain)
+
       go : Case (leb (first-key moved) key) → fits p (redistribute-row (q .page) (r .page) key moved) (at pages p) ≡ true
       go (yes! c) =
           let l₁ : shared-left q key moved .items ≡ q .items ++ moved = rw c refl in
@@ -171,8 +170,10 @@ module _ (pages : List Page) (small : length pages ≤ map-bits) (clean : Clean 
           let tk : take (length moved) (r .items) ≡ moved = ap (take (length moved)) rr ∙ take-all moved (drop (length moved) (r .items)) in
           let n₁ : length (q .items) + length moved ≤ room = let a = z₁ .0 in let b = ap length l₁ ∙ length-append (q .items) moved in omega arith in
           let a₁ : after 0 (q .items ++ moved) ≡ suc key = ap (after 0) (sym l₁) ∙ s .last-key 0 in
+          let o = in-order-rising (q .items) (suc (q .high)) moved (side .0)
+          (rising-cut (suc (q .high)) moved (drop (length moved) (r .items)) (subst (Rising (suc (q .high))) rr (side .1)) .0) in
           role-cases (redistribute-row (q .page) (r .page) key moved) p pages
-          (λ z. rw (node-test (at pages (q .page)) (length downs) (r .page) q i, eq-true (at pages (q .page) .right) (r .page) (i .right), c, i .items, le-true (length (q .items) + length moved) room n₁, eq-true (after 0 (q .items ++ moved)) (suc key) a₁) (children-part (at pages (q .page)) [] moved (drop (length moved) (r .items)) (subst (λ z. children-in (at pages (q .page)) z ≡ true) rr r-bits)))
+          (λ z. rw (node-test (at pages (q .page)) (length downs) (r .page) q i, eq-true (at pages (q .page) .right) (r .page) (i .right), c, i .items, le-true (length (q .items) + length moved) room n₁, eq-true (after 0 (q .items ++ moved)) (suc key) a₁, o) (children-part (at pages (q .page)) [] moved (drop (length moved) (r .items)) (subst (λ z. children-in (at pages (q .page)) z ≡ true) rr r-bits)))
           (λ z. rw (node-test (at pages (r .page)) (length downs) (first-page cs 0) r j, c, j .items) (entries-same _ moved tk))
           (λ z. clash (sym z)) (λ z. clash (sym z))
       go (no! c) =
@@ -186,6 +187,7 @@ module _ (pages : List Page) (small : length pages ≤ map-bits) (clean : Clean 
           let (d, t) = tail-cut (q .items) (kept moved (q .items)) moved qq in
           let a₁ : after 0 (take (length (q .items) - length moved) (q .items)) ≡ suc key = ap (after 0) (t ∙ sym l₁) ∙ s .last-key 0 in
           let n₂ : length (r .items) + length moved ≤ room = let a = z₂ .0 in let b = ap length l₂ ∙ length-append moved (r .items) in omega arith in
+          let h : after 0 moved ≤ suc (q .high) = let a = after-part (kept moved (q .items)) moved in let b = ap (after 0) qq in let c = side .0 in omega arith in
           role-cases (redistribute-row (q .page) (r .page) key moved) p pages
           (λ z. rw (
             node-test (at pages (q .page)) (length downs) (r .page) q i,
@@ -195,7 +197,7 @@ module _ (pages : List Page) (small : length pages ≤ map-bits) (clean : Clean 
             entries-same _ moved d,
             eq-true (after 0 (take (length (q .items) - length moved) (q .items))) (suc key) a₁,
           ))
-          (λ z. rw (node-test (at pages (r .page)) (length downs) (first-page cs 0) r j, c, j .items, le-true (length (r .items) + length moved) room n₂) (children-part (at pages (r .page)) (kept moved (q .items)) moved [] (subst (λ z. children-in (at pages (r .page)) z ≡ true) (qq ∙ ap (kept moved (q .items) ++_) (sym (append-nil moved))) q-bits)))
+          (λ z. rw (node-test (at pages (r .page)) (length downs) (first-page cs 0) r j, c, j .items, le-true (length (r .items) + length moved) room n₂, in-order-rising moved (suc (q .high)) (r .items) h (side .1)) (children-part (at pages (r .page)) (kept moved (q .items)) moved [] (subst (λ z. children-in (at pages (r .page)) z ≡ true) (qq ∙ ap (kept moved (q .items) ++_) (sym (append-nil moved))) q-bits)))
           (λ z. clash (sym z)) (λ z. clash (sym z))
 
   raise-passes : (r s : Node) (downs : List (List Node)) (c : ℕ) → Gives (length pages) (at pages 0 .marks) c → Rules pages ((r ∷ s ∷ []) ∷ downs)
@@ -224,15 +226,17 @@ module _ (pages : List Page) (small : length pages ≤ map-bits) (clean : Clean 
   put-passes : (kind : Kind) (batch previous key v : ℕ) (ups : List (List Node)) (xs : List Node) (n : Node) (ys : List Node) → Adding kind
       → look key (n .items) ≡ none → length (n .items) < room
       → Rules pages (ups ++ (xs ++ n ∷ ys) ∷ []) → (p : ℕ) → fits p (data-row kind batch previous (n .page) key v) (at pages p) ≡ true
-  unfolding fits-role fits-a found
+  unfolding fits-role fits-a
   put-passes kind batch previous key v ups xs n ys by-insert ab space k p =
       let i = page-at pages ups xs n ys [] (k .levels) .2 in
+      let (from, ri) = node-rises true 0 xs n ys (suc top) (levels-at pages ups (xs ++ n ∷ ys) [] (k .levels) .chain) in
       role-cases (data-row kind batch previous (n .page) key v) p pages
-      (λ z. rw (leaf-test (at pages (n .page)) (first-page ys 0) n i, i .items, le-true (length (n .items) + 1) room (omega arith), ab)) (λ z. clash (sym z)) (λ z. clash (sym z)) (λ z. clash (sym z))
+      (λ z. rw (leaf-test (at pages (n .page)) (first-page ys 0) n i, i .items, le-true (length (n .items) + 1) room (omega arith), nowhere-looked key from (n .items) ri ab)) (λ z. clash (sym z)) (λ z. clash (sym z)) (λ z. clash (sym z))
   put-passes kind batch previous key v ups xs n ys by-undo-delete ab space k p =
       let i = page-at pages ups xs n ys [] (k .levels) .2 in
+      let (from, ri) = node-rises true 0 xs n ys (suc top) (levels-at pages ups (xs ++ n ∷ ys) [] (k .levels) .chain) in
       role-cases (data-row kind batch previous (n .page) key v) p pages
-      (λ z. rw (leaf-test (at pages (n .page)) (first-page ys 0) n i, i .items, le-true (length (n .items) + 1) room (omega arith), ab)) (λ z. clash (sym z)) (λ z. clash (sym z)) (λ z. clash (sym z))
+      (λ z. rw (leaf-test (at pages (n .page)) (first-page ys 0) n i, i .items, le-true (length (n .items) + 1) room (omega arith), nowhere-looked key from (n .items) ri ab)) (λ z. clash (sym z)) (λ z. clash (sym z)) (λ z. clash (sym z))
 
   cut-passes : (kind : Kind) (batch previous key v u : ℕ) (ups : List (List Node)) (xs : List Node) (n : Node) (ys : List Node) → Removing kind v u
       → look key (n .items) ≡ some u

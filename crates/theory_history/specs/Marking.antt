@@ -6,7 +6,7 @@ use mathlib.Core.Bool.{Bool, true, false}
 use mathlib.Core.Option.{some}
 use mathlib.Core.List.{List, [], _∷_, _++_, append-assoc, append-nil}
 use native.Mathlib.Omega.{arith}
-use lib.ListN.{length}
+use lib.ListN.{length, length-append}
 use Rattle.def_base.specs.Tests.{neq-false, eq-true}
 use Rattle.def_layout.specs.declared.Entry.{Entry}
 use Rattle.def_layout.specs.Pages.{map-bits}
@@ -72,14 +72,24 @@ marks-stuck [] s h = h
 marks-stuck (b ∷ bs) s h = marks-stuck bs (mark-by (b .marked) b s) (mark-stuck (b .marked) b s h)
 
 -- What a round leaves: a trail, and so many batches with so much pending.
-pub record Round (s : Run) (sl : List Entry) (t : Run) (pending : ℕ) : Type 0 where
+pub record Round (s : Run) (sl : List Entry) (t : Run) (pending batches : ℕ) : Type 0 where
   pub trail : Trail s sl t sl
   pub same : pending-count (open-batches (t .log)) ≡ pending
+  pub count : length (open-batches (t .log)) ≡ batches
 
 -- Batches that each have something pending.
 unfoldable pub Busy : List Batch → Type 0
 Busy [] = Unit {0}
 Busy (b ∷ bs) = (b .lines ≢ []) × Busy bs
+
+-- How many they are.
+unfoldable pub busy-one : List Line → ℕ
+busy-one [] = 0
+busy-one (l ∷ ls) = 1
+
+unfoldable pub busy-count : List Batch → ℕ
+busy-count [] = 0
+busy-count (b ∷ bs) = busy-one (b .lines) + busy-count bs
 
 busy-more : (xs : List Batch) (b : Batch) → Busy xs → b .lines ≢ [] → Busy (xs ++ b ∷ [])
 unfolding Busy
@@ -110,9 +120,9 @@ module _ (n : ℕ) (most : n ≤ map-bits) where
         ap (λ t. open-batches (t .log)) (unstopped-emit r s z .is) ∙ told-due n s sl r c ∙ ap (change-batch (b .number) (mark-set (s .due))) o ∙ change-mid (mark-set (s .due)) xs b ys f,
       )
 
-  pub marks-trail : (bs xs : List Batch) (s : Run) (sl : List Entry) → Core n s sl → open-batches (s .log) ≡ xs ++ bs → mark-all bs s .stop ≡ 0 → Round s sl (mark-all bs s) (pending-count xs + pending-count bs)
+  pub marks-trail : (bs xs : List Batch) (s : Run) (sl : List Entry) → Core n s sl → open-batches (s .log) ≡ xs ++ bs → mark-all bs s .stop ≡ 0 → Round s sl (mark-all bs s) (pending-count xs + pending-count bs) (length xs + length bs)
   unfolding mark-all pending-count
-  marks-trail [] xs s sl c o z = record { trail = Trail.stay; same = ap pending-count (o ∙ append-nil xs) ∙ omega arith }
+  marks-trail [] xs s sl c o z = record { trail = Trail.stay; same = ap pending-count (o ∙ append-nil xs) ∙ omega arith; count = ap length (o ∙ append-nil xs) ∙ omega arith }
   marks-trail (b ∷ bs) xs s sl c o z =
       let t = mark-by (b .marked) b s in
       let zt : t .stop ≡ 0 = went-on (mark-all bs) (marks-stuck bs) t z in
@@ -120,13 +130,14 @@ module _ (n : ℕ) (most : n ≤ map-bits) where
       let x = marks-trail bs (xs ++ a ∷ []) t sl (trail-core most p c) (q ∙ sym (append-assoc xs (a ∷ []) bs)) z in
       let e = pending-append xs (a ∷ []) in
       let la′ = ap length la in
-      record { trail = trail-append p (x .trail); same = x .same ∙ (omega arith) }
+      let k = length-append xs (a ∷ []) in
+      record { trail = trail-append p (x .trail); same = x .same ∙ (omega arith); count = x .count ∙ (omega arith) }
 
   -- ---- ends of idle batches
 
   ended-one : (ls : List Line) (xs : List Batch) (b : Batch) (bs : List Batch) (s : Run) (sl : List Entry) → b .lines ≡ ls → Core n s sl → open-batches (s .log) ≡ xs ++ b ∷ bs → Busy xs → end-by ls b s .stop ≡ 0
-      → Trail s sl (end-by ls b s) sl × (ys : List Batch) × Busy ys × (pending-count ys ≡ pending-count xs + length ls) × (open-batches (end-by ls b s .log) ≡ ys ++ bs)
-  unfolding end-by tell pending-count
+      → Trail s sl (end-by ls b s) sl × (ys : List Batch) × Busy ys × (pending-count ys ≡ pending-count xs + length ls) × (length ys ≡ length xs + busy-one ls) × (open-batches (end-by ls b s .log) ≡ ys ++ bs)
+  unfolding end-by tell pending-count busy-one
   ended-one [] xs b bs s sl k c o w z =
       let f = open-fresh s xs b bs o in
       let r = batch-row end (b .number) (b .last) in (
@@ -134,21 +145,23 @@ module _ (n : ℕ) (most : n ≤ map-bits) where
         xs,
         w,
         omega arith,
+        omega arith,
         ap (λ t. open-batches (t .log)) (unstopped-emit r s z .is) ∙ told-due n s sl r c ∙ ap (drop-batch (b .number)) o ∙ drop-mid xs b bs f,
       )
   ended-one (l ∷ ls) xs b bs s sl k c o w z =
       let e = pending-append xs (b ∷ []) in
       let m = ap length k in
-      (Trail.stay, xs ++ b ∷ [], busy-more xs b w (λ v. let y : _≡_ {A = ℕ} 0 1 = let u : l ∷ ls ≡ [] = sym k ∙ v in cc in omega arith), omega arith, o ∙ sym (append-assoc xs (b ∷ []) bs))
+      let a = length-append xs (b ∷ []) in
+      (Trail.stay, xs ++ b ∷ [], busy-more xs b w (λ v. let y : _≡_ {A = ℕ} 0 1 = let u : l ∷ ls ≡ [] = sym k ∙ v in cc in omega arith), omega arith, omega arith, o ∙ sym (append-assoc xs (b ∷ []) bs))
 
   -- Each has something pending.
   pub ends-trail : (bs xs : List Batch) (s : Run) (sl : List Entry) → Core n s sl → open-batches (s .log) ≡ xs ++ bs → Busy xs → end-idle bs s .stop ≡ 0
-      → Round s sl (end-idle bs s) (pending-count xs + pending-count bs) × Busy (open-batches (end-idle bs s .log))
-  unfolding end-idle pending-count
-  ends-trail [] xs s sl c o w z = (record { trail = Trail.stay; same = ap pending-count (o ∙ append-nil xs) ∙ omega arith }, subst Busy (sym (o ∙ append-nil xs)) w)
+      → Round s sl (end-idle bs s) (pending-count xs + pending-count bs) (length xs + busy-count bs) × Busy (open-batches (end-idle bs s .log))
+  unfolding end-idle pending-count busy-count
+  ends-trail [] xs s sl c o w z = (record { trail = Trail.stay; same = ap pending-count (o ∙ append-nil xs) ∙ omega arith; count = ap length (o ∙ append-nil xs) ∙ omega arith }, subst Busy (sym (o ∙ append-nil xs)) w)
   ends-trail (b ∷ bs) xs s sl c o w z =
       let t = end-by (b .lines) b s in
       let zt : t .stop ≡ 0 = went-on (end-idle bs) (ends-stuck bs) t z in
-      let (p, ys, wy, ey, q) = ended-one (b .lines) xs b bs s sl refl c o w zt in
+      let (p, ys, wy, ey, ly, q) = ended-one (b .lines) xs b bs s sl refl c o w zt in
       let (x, v) = ends-trail bs ys t sl (trail-core most p c) q wy z in
-      (record { trail = trail-append p (x .trail); same = x .same ∙ (omega arith) }, v)
+      (record { trail = trail-append p (x .trail); same = x .same ∙ (omega arith); count = x .count ∙ (omega arith) }, v)

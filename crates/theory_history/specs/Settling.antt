@@ -22,7 +22,7 @@ use Rattle.theory_history.specs.Core.{Core}
 use Rattle.theory_history.specs.Trail
 use Rattle.theory_history.specs.Trail.{Trail, trail-append, trail-core}
 use Rattle.theory_history.specs.Undoing.{went-on, line-stuck, end-stuck, line-undone, end-trail}
-use Rattle.theory_history.specs.Marking.{find-mid, change-mid, drop-mid, distinct-mid, open-fresh, pending-append, ends-stuck, Busy, marks-trail, ends-trail}
+use Rattle.theory_history.specs.Marking.{find-mid, change-mid, drop-mid, distinct-mid, open-fresh, pending-append, ends-stuck, Busy, busy-count, marks-trail, ends-trail}
 
 -- ---- a stopped run stays stopped
 
@@ -148,7 +148,7 @@ pub record CarriedAt (xs : List Batch) (b : Batch) (ys as′ : List Batch) : Typ
   pub number : b .number ≡ batch .number
   pub lines : b .lines ≡ batch .lines
 
-carried-at : (xs : List Batch) (b : Batch) (ys : List Batch) {as′ : List Batch} → b .lines ≢ [] → Carried (xs ++ b ∷ ys) as′ → CarriedAt xs b ys as′
+pub carried-at : (xs : List Batch) (b : Batch) (ys : List Batch) {as′ : List Batch} → b .lines ≢ [] → Carried (xs ++ b ∷ ys) as′ → CarriedAt xs b ys as′
 carried-at [] b ys h (gone e c) = absurd (h e)
 carried-at [] b ys h (kept {a = a} {as′ = as′} n l q c) = record { before = []; batch = a; later = as′; whole = refl; left = none!; right = c; number = n; lines = l }
 carried-at (x ∷ xs) b ys h (gone e c) =
@@ -186,6 +186,13 @@ nothing-pending-in : pending-count [] ≡ 0
 unfolding pending-count
 nothing-pending-in = refl
 
+-- Restart's run after the abort marks, and after the ends of idle batches.
+abbrev pub all-marked : Run → Run
+all-marked s = mark-all (open-batches (s .log)) s
+
+abbrev pub idle-ended : Run → Run
+idle-ended s = end-idle (open-batches (all-marked s .log)) (all-marked s)
+
 module _ (n : ℕ) (most : n ≤ map-bits) where
   -- One line undone, with an 8 right after the batch's last.
   pub record Stepped (s : Run) (sl : List Entry) (t : Run) (us : List Batch) (a : Batch) (vs : List Batch) (ls : List Line) : Type 0 where
@@ -221,7 +228,7 @@ module _ (n : ℕ) (most : n ≤ map-bits) where
     pub positive : Positive cs
     pub carried : Carried cs (open-batches (t .log))
 
-  left-after : (f : ℕ) (cs : List Batch) (s : Run) (sl : List Entry) (xs : List Batch) (b : Batch) (ys : List Batch) (l : Line) (ls : List Line) → cs ≡ xs ++ b ∷ ys → b .lines ≡ l ∷ ls → suc f ≡ pending-count cs
+  pub left-after : (f : ℕ) (cs : List Batch) (s : Run) (sl : List Entry) (xs : List Batch) (b : Batch) (ys : List Batch) (l : Line) (ls : List Line) → cs ≡ xs ++ b ∷ ys → b .lines ≡ l ∷ ls → suc f ≡ pending-count cs
       → Distinct cs → Positive cs → Core n s sl → Carried cs (open-batches (s .log)) → undo-newest (b .lines) (b .number) s .stop ≡ 0 → Left s sl (without-newest b cs) (undo-newest (b .lines) (b .number) s) f
   unfolding undo-newest without-newest with-lines pending-count rest-of
   left-after f cs s sl xs b ys l ls o w e d g c r z =
@@ -267,26 +274,50 @@ module _ (n : ℕ) (most : n ≤ map-bits) where
       subst (λ o. Trail s sl (undo-all f (undo-step o cs s .batches) (undo-step o cs s .run)) sl × (open-batches (undo-all f (undo-step o cs s .batches) (undo-step o cs s .run) .log) ≡ [])) (sym (p .is))
       (trail-append (x .trail) q, o)
 
-  -- RESTART'S RUN, where it does not stop, is a trail that leaves no batch open.
-  pub settle-trail : (s : Run) (sl : List Entry) → Core n s sl → settle s .stop ≡ 0 → Trail s sl (settle s) sl × (open-batches (settle s .log) ≡ [])
-  unfolding settle Busy
-  settle-trail s sl c z =
+  -- Marks end no batch.
+  pub marked-count : (s : Run) (sl : List Entry) → Core n s sl → all-marked s .stop ≡ 0 → length (open-batches (all-marked s .log)) ≡ length (open-batches (s .log))
+  marked-count s sl c z = marks-trail n most (open-batches (s .log)) [] s sl c refl z .count ∙ omega arith
+
+  -- What undo starts from; the batches open then are those that had something pending.
+  pub record Begun (s : Run) (sl : List Entry) : Type 0 where
+    pub left : Left s sl (open-batches (idle-ended s .log)) (idle-ended s) (pending-count (open-batches (s .log)))
+    pub busy : length (open-batches (idle-ended s .log)) ≡ busy-count (open-batches (all-marked s .log))
+
+  pub begun : (s : Run) (sl : List Entry) → Core n s sl → idle-ended s .stop ≡ 0 → Begun s sl
+  unfolding Busy
+  begun s sl c z =
       let bs = open-batches (s .log) in
-      let t = mark-all bs s in
+      let t = all-marked s in
       let ts = open-batches (t .log) in
-      let u = end-idle ts t in
+      let u = idle-ended s in
       let us = open-batches (u .log) in
-      let f = pending-count bs in
-      let zu : u .stop ≡ 0 = went-on (undo-all f us) (undo-stuck f us) u z in
-      let zt : t .stop ≡ 0 = went-on (end-idle ts) (ends-stuck ts) t zu in
+      let zt : t .stop ≡ 0 = went-on (end-idle ts) (ends-stuck ts) t z in
       let x = marks-trail n most bs [] s sl c refl zt in
-      let ct = trail-core most (x .trail) c in
-      let (y, busy) = ends-trail n most ts [] t sl ct refl tt zu in
-      let cu = trail-core most (y .trail) ct in
+      let (y, busy) = ends-trail n most ts [] t sl (trail-core most (x .trail) c) refl tt z in
       let e₁ = x .same in
       let e₂ = y .same in
+      let k = y .count in
       let none-pending : pending-count [] ≡ 0 = nothing-pending-in in
-      let e : f ≡ pending-count us = omega arith in
       let num = numbered-open (u .log) in
-      let (q, o) = undo-trail f us u sl e (num .distinct) (within-positive (length (u .log)) us (num .within)) cu (busy-carried us busy) z in
-      (trail-append (x .trail) (trail-append (y .trail) q), o)
+      record {
+        left =
+            record {
+              trail = trail-append (x .trail) (y .trail);
+              due = omega arith;
+              distinct = num .distinct;
+              positive = within-positive (length (u .log)) us (num .within);
+              carried = busy-carried us busy;
+            };
+        busy = omega arith;
+      }
+
+  -- RESTART'S RUN, where it does not stop, is a trail that leaves no batch open.
+  pub settle-trail : (s : Run) (sl : List Entry) → Core n s sl → settle s .stop ≡ 0 → Trail s sl (settle s) sl × (open-batches (settle s .log) ≡ [])
+  unfolding settle
+  settle-trail s sl c z =
+      let u = idle-ended s in
+      let us = open-batches (u .log) in
+      let f = pending-count (open-batches (s .log)) in
+      let x = begun s sl c (went-on (undo-all f us) (undo-stuck f us) u z) .left in
+      let (q, o) = undo-trail f us u sl (x .due) (x .distinct) (x .positive) (trail-core most (x .trail) c) (x .carried) z in
+      (trail-append (x .trail) q, o)

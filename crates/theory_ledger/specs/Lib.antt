@@ -1,5 +1,6 @@
 pub mod Runs
 pub mod Held
+pub mod HeldBy
 pub mod Settles
 pub mod Small
 pub mod PendingRule

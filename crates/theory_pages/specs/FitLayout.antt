@@ -13,8 +13,8 @@ use Rattle.def_layout.specs.Sizes.{room}
 use Rattle.def_layout.specs.Pages.{Page, PageKind, free, leaf, index, storage-map, page-kind-number, kind-is, kind-at, node-at, at, layout, layout-by, own-ok, map-bits}
 use Rattle.def_layout.specs.Records.{Kind, begin, insert, delete, undo-insert, undo-delete, commit, abort-mark, end, split, link, unlink, merge, redistribute, raise, lower, Rec}
 use Rattle.def_layout.specs.Rows.{level-bits, carries, named-only, row, row-says}
-use Rattle.def_model.specs.Change.{as-map, shape, role, hit, link-in, unlink-in, first-key, kept, with-lsn, entries-in, cut-to-size, into-a, share-in-a, share-in-b, change-a, change-b, change-c, change, page-marked, takes, act}
-use Rattle.def_model.specs.Fit.{after, is-leaf, is-index, is-node, children-in, share-fits-a, share-fits-b, fits-a, fits-b, fits-role, fits}
+use Rattle.def_model.specs.Change.{as-map, shape, role, hit, link-in, unlink-in, kept, with-lsn, entries-in, cut-to-size, into-a, share-in-a, share-in-b, change-a, change-b, change-c, change, page-marked, takes, act}
+use Rattle.def_model.specs.Fit.{after, in-order, is-leaf, is-index, is-node, children-in, share-fits-a, share-fits-b, fits-a, fits-b, fits-role, fits}
 use Rattle.theory_pages.specs.Layout.{map-marked, freed-layout}
 
 -- ---- children of ten bits, through what changes do to entries
@@ -196,14 +196,18 @@ module _ (n p m : ℕ) (most : n ≤ map-bits) (r : Rec) (x : Page) (low : x .le
   unfolding share-fits-a share-in-a
   share-a true u f =
       let (a, f₁) = and-true (leb (length (x .entries) + length (r .entries)) room) _ f in
-      let (b, c) = and-true (eqb (after 0 (x .entries ++ r .entries)) (suc (r .key))) (children-in x (r .entries)) f₁ in
+      let (b, f₂) = and-true (eqb (after 0 (x .entries ++ r .entries)) (suc (r .key))) _ f₁ in
+      let (o, c) = and-true (in-order (x .entries) (r .entries)) (children-in x (r .entries)) f₂ in
       children-both x (x .entries) (r .entries) (node-laid n p x laid u .children) c
   share-a false u f = kept-in (node-laid n p x laid u)
 
   share-b : (t : Bool) → is-node x ≡ true → share-fits-b t r x ≡ true → children-in x (share-in-b t r (x .entries)) ≡ true
   unfolding share-fits-b share-in-b
   share-b true u f = children-map x (x .entries) (drop (length (r .entries)) (x .entries)) (bits-drop (length (r .entries)) (x .entries)) (node-laid n p x laid u .children)
-  share-b false u f = children-both x (r .entries) (x .entries) (and-true (leb (length (x .entries) + length (r .entries)) room) (children-in x (r .entries)) f .1) (node-laid n p x laid u .children)
+  share-b false u f =
+      let (a, f₁) = and-true (leb (length (x .entries) + length (r .entries)) room) _ f in
+      let (o, c) = and-true (in-order (r .entries) (x .entries)) (children-in x (r .entries)) f₁ in
+      children-both x (r .entries) (x .entries) c (node-laid n p x laid u .children)
 
   as-a-laid : (k : Kind) → r .kind ≡ k → shape k .a ≡ true → fits-a k r x ≡ true → row-says k m r ≡ true → layout n p (with-lsn m (cut-to-size (change-a k r x))) ≡ true
   unfolding fits-a change-a row-says
@@ -226,7 +230,7 @@ module _ (n p m : ℕ) (most : n ≤ map-bits) (r : Rec) (x : Page) (low : x .le
       let (u, f₁) = and-true (is-node x) _ f in
       let (a₁, f₂) = and-true (leb (length (x .entries) + length (r .entries)) room) _ f₁ in
       let (a₂, f₃) = and-true (eqb (x .right) (r .pageB)) _ f₂ in
-      let (a₃, c) = and-true (leb (after 0 (x .entries)) (first-key (r .entries))) (children-in x (r .entries)) f₃ in
+      let (a₃, c) = and-true (in-order (x .entries) (r .entries)) (children-in x (r .entries)) f₃ in
       node-stays (change-a merge r x) u refl refl refl (λ a. children-both x (x .entries) (r .entries) (a .children) c)
   as-a-laid redistribute e s f w =
       let (u, f₁) = and-true (is-node x) _ f in

@@ -1,4 +1,3 @@
-pub mod Lossless
 pub mod Invariant
 pub mod AtLengths
 pub mod Keeping
@@ -7,3 +6,7 @@ pub mod Passed
 pub mod Going
 pub mod Steps
 pub mod Theorem
+pub mod DeskNumbers
+pub mod DesksFit
+pub mod ByC
+pub mod TheoremOfC

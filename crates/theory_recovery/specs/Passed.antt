@@ -81,7 +81,7 @@ module _ (origin : Origin) (n m : ℕ) (l : Lent) (z : Lengths l n m) (stable : 
   t : Run
   t = e .run
 
-  ranged-run : RangedHistory origin n (e .run .log)
+  pub ranged-run : RangedHistory origin n (e .run .log)
   ranged-run =
       let d = e .standing .core .due in
       let f = e .within in

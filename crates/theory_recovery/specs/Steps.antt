@@ -1,5 +1,5 @@
 -- EVERY EVENT KEEPS THE INVARIANT, and the stable log only grows.
-use Prim.Native.Nat.{ℕ, zero, suc, _+_, _*_}
+use Prim.Native.Nat.{ℕ, zero, suc, _+_}
 use mathlib.Core.Path.{_≡_, refl, sym, ap, _∙_, subst}
 use mathlib.Core.Logic.{_⊎_, inl, inr}
 use mathlib.Core.Bool.{Bool, true, false, not, _&&_}
@@ -9,21 +9,22 @@ use lib.Dec.{leb}
 use Rattle.def_base.specs.Tests.{any, clash, Case, yes!, no!, case}
 use Rattle.def_layout.specs.declared.Desk.{Desk}
 use Rattle.def_layout.specs.Numbers.{zeros}
-use Rattle.def_layout.specs.Sizes.{page-size, slot-size}
-use Rattle.def_model.specs.Areas.{Store, zero-side}
-use Rattle.def_model.specs.Answers.{Outcome, passed}
-use Rattle.def_model.specs.OnBytes.{Call, format, begin, restart, fetch, next, insert, delete, commit, abort, write-out, outcome, Lent, Result, call, call-by, read-areas, lengths-ok, lent-after, store-all-bytes, pages-bytes, log-bytes}
+use Rattle.def_model.specs.declared.Refusal.{Refusal}
+use Rattle.def_model.specs.Areas.{Store}
+use Rattle.def_model.specs.Answers.{passed}
+use Rattle.def_model.specs.OnBytes.{Call, format, begin, restart, fetch, next, insert, delete, commit, abort, write-out, outcome, Lent, Result, call, call-by, read-areas, lengths-ok, lent-after, store-all-bytes}
 use Rattle.def_recovery.specs.Book.{Book, book-cut}
 use Rattle.def_recovery.specs.Events.{World, Rubble, Granted, is-format, result, passes, book-after, end-call, cut-call, all-stored, grow}
 use Rattle.def_recovery.specs.Demand3.{is-commit-of}
 use Rattle.theory_history.specs.Start.{pages-after}
-use Rattle.law_areas.specs.Lengths.{Lengths, lengths-said}
 use Rattle.law_areas.specs.Held.{holds-grown}
-use Rattle.law_areas.specs.Pages.{HoldsPages, zero-pages-bytes}
-use Rattle.law_areas.specs.Logs.{HoldsLog, empty-bytes}
+use Rattle.law_areas.specs.Pages.{HoldsPages}
+use Rattle.law_areas.specs.Logs.{HoldsLog}
 use Rattle.theory_recovery.specs.Invariant.{Mode, live, dead, lost, Inv}
-use Rattle.theory_recovery.specs.Lossless.{pages-lossless, log-lossless}
-use Rattle.theory_calls.specs.Refused.{refused, format-passes}
+use Rattle.theory_refusals.specs.Order.{not-passed}
+use Rattle.theory_refusals.specs.Left.{zeroes, empties}
+use Rattle.theory_refusals.specs.OnBytes.{left-lent-by, refused-leaves}
+use Rattle.theory_calls.specs.Refused.{format-passes}
 use Rattle.theory_recovery.specs.Passed.{Next, sure-same, ended-next, cut-in, cut-next}
 use Rattle.theory_recovery.specs.Going.{does, Going, going}
 
@@ -61,26 +62,15 @@ pub record Unpassed (l : Lent) (r : Result) : Type 0 where
   pub stores : r .stores ≡ []
   pub work : ((r .work-pages ≡ l .work-pages) × (r .work-log ≡ l .work-log)) ⊎ ((j : ℕ) × (k : ℕ) × (r .work-pages ≡ zeros j) × (r .work-log ≡ zeros k))
 
-wrong-lengths : (c : Call) (l : Lent) (d : Desk) → Unpassed l (call-by false c l d)
-unfolding call-by passed
-wrong-lengths c l d = record { answer = refl; stores = refl; work = inl (refl, refl) }
-
-refused-bytes : (c : Call) (l : Lent) (d : Desk) (n m : ℕ) → Lengths l n m → passed (outcome c (read-areas l) d .answer) ≡ false → Unpassed l (call-by true c l d)
-unfolding call-by read-areas
-refused-bytes c l d n m z p = let r = refused c (read-areas l) d p in record { answer = p; stores = r .stores; work = go (r .work) }
+unpassed : (c : Call) (l : Lent) (d : Desk) → passed (call c l d .answer) ≡ false → Unpassed l (call c l d)
+unfolding left-lent-by passed
+unpassed c l d p = let (r, e) = not-passed (call c l d .answer) p in subst (Unpassed l) (sym (refused-leaves c l d r e)) (go r (zeroes c r))
   where
-    o : Outcome
-    o = outcome c (read-areas l) d
+    go : (r : Refusal) (z : Bool) → Unpassed l (left-lent-by z (empties c) r l d)
+    go r false = record { answer = refl; stores = refl; work = inl (refl, refl) }
+    go r true = record { answer = refl; stores = refl; work = inr (length (l .work-pages), length (l .work-log), refl, refl) }
 
-    go : (outcome c (read-areas l) d .work ≡ read-areas l .work) ⊎ (outcome c (read-areas l) d .work ≡ zero-side (length (read-areas l .work .pages)) (length (read-areas l .work .log)))
-        → ((pages-bytes (outcome c (read-areas l) d .work .pages) ≡ l .work-pages) × (log-bytes (outcome c (read-areas l) d .work .log) ≡ l .work-log)) ⊎ ((j : ℕ) × (k : ℕ) × (pages-bytes (outcome c (read-areas l) d .work .pages) ≡ zeros j) × (log-bytes (outcome c (read-areas l) d .work .log) ≡ zeros k))
-    go (inl e) = inl (ap (λ s. pages-bytes (s .pages)) e ∙ pages-lossless n (l .work-pages) (z .work-pages), ap (λ s. log-bytes (s .log)) e ∙ log-lossless m (l .work-log) (z .work-log))
-    go (inr e) =
-        let a = length (read-areas l .work .pages) in
-        let b = length (read-areas l .work .log) in
-        inr (page-size * a, slot-size * b, ap (λ s. pages-bytes (s .pages)) e ∙ zero-pages-bytes a, ap (λ s. log-bytes (s .log)) e ∙ empty-bytes b)
-
-no-cut : (c : Call) (b : Book) → book-cut c false b ≡ b
+pub no-cut : (c : Call) (b : Book) → book-cut c false b ≡ b
 unfolding book-cut
 no-cut format b = refl
 no-cut begin b = refl
@@ -101,7 +91,7 @@ abbrev pub cut-by : Call → ℕ → Rubble → Result → World → World
 cut-by c j left r w =
     record { lent = record { work-pages = left .work-pages; stable-pages = lent-after j r (w .lent) .stable-pages; work-log = left .work-log; stable-log = lent-after j r (w .lent) .stable-log }; desk = left .desk; book = book-cut c (all-stored j r) (w .book); since-cut = true }
 
-take-none : (j : ℕ) (ts : List Store) → ts ≡ [] → (l : Lent) → store-all-bytes (take j ts) l ≡ l
+pub take-none : (j : ℕ) (ts : List Store) → ts ≡ [] → (l : Lent) → store-all-bytes (take j ts) l ≡ l
 unfolding store-all-bytes
 take-none j ts e l = ap (λ q. store-all-bytes (take j q) l) e ∙ none j
   where
@@ -109,7 +99,7 @@ take-none j ts e l = ap (λ q. store-all-bytes (take j q) l) e ∙ none j
     none zero = refl
     none (suc j) = refl
 
-still : (b : Bool) → b && true ≡ b
+pub still : (b : Bool) → b && true ≡ b
 still true = refl
 still false = refl
 
@@ -193,15 +183,24 @@ not-format c w g e = go (case (is-format c))
     go (yes! f) = clash (sym (format-is c f) ∙ sym (ap (λ r. passed (r .answer)) (result-by c w true e)) ∙ g .no-format f)
 
 module _ (w : World) (i : Inv w) (c : Call) (g : Granted c w) where
-  by-refusal : (r : Result) → result c w ≡ r → Unpassed (w .lent) r → Reports w i c (end-call c w)
+  by-refusal : Unpassed (w .lent) (result c w) → Reports w i c (end-call c w)
   unfolding end-call
-  by-refusal r e u = subst (λ q. Reports w i c (ended-by c q w)) (sym e) (record { next = refused-ended w i c r u; told = λ b x p. clash (sym p ∙ ap (λ q. passed (q .answer)) e ∙ u .answer) })
+  by-refusal u = record { next = refused-ended w i c (result c w) u; told = λ b x p. clash (sym p ∙ u .answer) }
 
-  cut-by-refusal : (j : ℕ) (left : Rubble) (r : Result) → result c w ≡ r → Unpassed (w .lent) r → Next (i .log) (cut-call c j left w)
+  cut-by-refusal : (j : ℕ) (left : Rubble) → Unpassed (w .lent) (result c w) → Next (i .log) (cut-call c j left w)
   unfolding cut-call
-  cut-by-refusal j left r e u = subst (λ q. Next (i .log) (cut-by c j left q w)) (sym e) (refused-cut w i c r u j left)
+  cut-by-refusal j left u = refused-cut w i c (result c w) u j left
 
-  goes : lengths-ok (w .lent) ≡ true → passed (does c w .answer) ≡ true → Going (i .origin) w (i .log) c
+  -- Its lengths are right, and so is what it asks of the typed areas.
+  passing : passes c w ≡ true → (lengths-ok (w .lent) ≡ true) × (passed (does c w .answer) ≡ true)
+  unfolding call-by passed
+  passing p = go (case (lengths-ok (w .lent)))
+    where
+      go : Case (lengths-ok (w .lent)) → (lengths-ok (w .lent) ≡ true) × (passed (does c w .answer) ≡ true)
+      go (yes! e) = (e, sym (ap (λ r. passed (r .answer)) (result-by c w true e)) ∙ p)
+      go (no! e) = clash (sym p ∙ ap (λ r. passed (r .answer)) (result-by c w false e))
+
+  pub goes : lengths-ok (w .lent) ≡ true → passed (does c w .answer) ≡ true → Going (i .origin) w (i .log) c
   unfolding call-by
   goes e p = going w i e c (g .numbers) (not-format c w g e) (λ s. g .restart-first s (ap (λ r. passed (r .answer)) (result-by c w true e) ∙ p)) p
 
@@ -222,24 +221,16 @@ module _ (w : World) (i : Inv w) (c : Call) (g : Granted c w) where
 
   -- A CALL THAT ENDED.
   pub ended-reports : Reports w i c (end-call c w)
-  ended-reports = go (case (lengths-ok (w .lent)))
+  ended-reports = go (case (passes c w))
     where
-      by : lengths-ok (w .lent) ≡ true → Case (passed (does c w .answer)) → Reports w i c (end-call c w)
-      by e (yes! p) = by-passing e p (goes e p)
-      by e (no! p) = by-refusal (call-by true c (w .lent) (w .desk)) (result-by c w true e) (refused-bytes c (w .lent) (w .desk) _ _ (lengths-said (w .lent) e) p)
-
-      go : Case (lengths-ok (w .lent)) → Reports w i c (end-call c w)
-      go (yes! e) = by e (case (passed (does c w .answer)))
-      go (no! e) = by-refusal (call-by false c (w .lent) (w .desk)) (result-by c w false e) (wrong-lengths c (w .lent) (w .desk))
+      go : Case (passes c w) → Reports w i c (end-call c w)
+      go (yes! p) = let (e, q) = passing p in by-passing e q (goes e q)
+      go (no! p) = by-refusal (unpassed c (w .lent) (w .desk) p)
 
   -- A CALL THAT WAS CUT.
   pub cut-keeps : (j : ℕ) (left : Rubble) → Next (i .log) (cut-call c j left w)
-  cut-keeps j left = go (case (lengths-ok (w .lent)))
+  cut-keeps j left = go (case (passes c w))
     where
-      by : lengths-ok (w .lent) ≡ true → Case (passed (does c w .answer)) → Next (i .log) (cut-call c j left w)
-      by e (yes! p) = cut-by-passing j left e p (goes e p)
-      by e (no! p) = cut-by-refusal j left (call-by true c (w .lent) (w .desk)) (result-by c w true e) (refused-bytes c (w .lent) (w .desk) _ _ (lengths-said (w .lent) e) p)
-
-      go : Case (lengths-ok (w .lent)) → Next (i .log) (cut-call c j left w)
-      go (yes! e) = by e (case (passed (does c w .answer)))
-      go (no! e) = cut-by-refusal j left (call-by false c (w .lent) (w .desk)) (result-by c w false e) (wrong-lengths c (w .lent) (w .desk))
+      go : Case (passes c w) → Next (i .log) (cut-call c j left w)
+      go (yes! p) = let (e, q) = passing p in cut-by-passing j left e q (goes e q)
+      go (no! p) = cut-by-refusal j left (unpassed c (w .lent) (w .desk) p)

@@ -24,12 +24,13 @@ use Rattle.def_model.specs.OnBytes
 use Rattle.def_model.specs.OnBytes.{format, restart, commit, outcome, Lent, call, call-by, read-areas, read-pages, pages-bytes, log-bytes, lengths-ok, lent-after, store-all-bytes}
 use Rattle.def_recovery.specs.Book.{new-book}
 use Rattle.def_recovery.specs.Events.{World, Event, ended, cut, grown, Allowed, AllAllowed, formatted, happen, happen-all, passes}
-use Rattle.def_recovery.specs.Demand3.{Demand3, WantsExactly, FinishesOrWants, RedoBalances, LeavesAreSlides, reason, stored, is-commit-of}
+use Rattle.def_recovery.specs.Demand3.{Demand3, Recovers, WantsExactly, Suffices, FinishesOrWants, RedoBalances, LeavesAreSlides, reason, stored, is-commit-of}
 use Rattle.theory_ledger.specs.Telling.{slides-of, slides-from}
-use Rattle.theory_room.specs.Restarting.{restarted-cases, restarted-finishes, restarted-wants-room, restarted-wants-pages, restarted-wants-room-first, some-room-does}
+use Rattle.theory_room.specs.Restarting.{restarted-cases, restarted-finishes, restarted-wants-room, restarted-wants-pages, restarted-wants-room-first, some-room-does, redone-no-room}
 use Rattle.law_areas.specs.Typed.{formatted-length}
 use Rattle.theory_history.specs.Origin.{Origin, origin-pages, origin-length}
 use Rattle.theory_history.specs.FormattedOrigin.{formatted-origin, formatted-is}
+use Rattle.theory_history.specs.Core.{Core}
 use Rattle.theory_history.specs.Start.{slides-after, pages-after, start-behind}
 use Rattle.theory_history.specs.Growing.{start-history}
 use Rattle.theory_history.specs.Redoing.{Image, image-tree, redone-standing, stable-log-is}
@@ -40,6 +41,7 @@ use Rattle.law_areas.specs.Logs.{HoldsLog, no-records, empty-bytes, read-log-le
 use Rattle.law_areas.specs.Formatting
 use Rattle.theory_calls.specs.Stories.{story, sheets-of}
 use Rattle.theory_calls.specs.Restarting.{restart-reason, finished, restart-work, restart-within}
+use Rattle.theory_sound.specs.RestartRoom.{reserves-finish, reserves-end, redone-no-page}
 use Rattle.theory_recovery.specs.Invariant.{Sure, live, Inv}
 use Rattle.theory_recovery.specs.Fixing.{fixed-none, any-first}
 use Rattle.theory_recovery.specs.Passed.{Next}
@@ -201,6 +203,7 @@ module _ (w : World) (i : Inv w) (lens : lengths-ok (w .lent) ≡ true) where
       ∙ ap leaf-records (read-back (restarted (stored w) .pages) (pages-fit z)) ∙ f .leaves ∙ sym (i .slides)
 
   pub wants : WantsExactly w
+  unfolding redone
   wants =
       record {
         finishes = λ q a b. reason-is ∙ restarted-finishes (stored w) q a b;
@@ -210,29 +213,44 @@ module _ (w : World) (i : Inv w) (lens : lengths-ok (w .lent) ≡ true) where
         some-room-does = some-room-does (w .lent);
       }
 
+  core : Core k (redone (stored w)) (slides-after (i .origin) (i .log))
+  core = redone-standing (i .origin) k s least most (i .log) (sure .history) (stored w) shows .core
+
+  pub suffices : Suffices w
+  suffices =
+      record {
+        finishes = λ e. reason-is ∙ reserves-finish k most (stored w) _ core e;
+        ends = reserves-end k most (stored w) _ core;
+        no-room-left = redone-no-room (stored w);
+        no-page-left = redone-no-page k most (stored w) _ core;
+      }
+
   pub logged : stable-log (stored w) ≡ i .log
   logged = stable-log-is (i .origin) k s least most (i .log) (sure .history) (stored w) shows
 
 -- ---- the theorem
 
-pub demand-3 : Demand3
-unfolding Demand3
-demand-3 l d lens es a =
-    let w = formatted l d in
-    let i = formatted-inv l d lens in
+-- Of any register that keeps the invariant.
+pub recovers : (es : List Event) (w : World) → Inv w → AllAllowed es w → Recovers es w
+recovers es w i a =
     let x = all-keep es w i a .inv in
     record {
       answers = λ z. answers (happen-all es w) x z;
       balances = λ z. balances (happen-all es w) x z;
       leaves = λ z. leaves (happen-all es w) x z;
       wants = λ z. wants (happen-all es w) x z;
+      suffices = λ z. suffices (happen-all es w) x z;
       reported = λ z before later b e p. reports es z before later b e p a;
     }
   where
-    reports : (es : List Event) → lengths-ok (happen-all es (formatted l d) .lent) ≡ true → (before later : List Event) (b : ℕ) → es ≡ before ++ ended (commit b) ∷ later → passes (commit b) (happen-all before (formatted l d)) ≡ true → AllAllowed es (formatted l d)
-        → any (is-commit-of b) (stable-log (stored (happen-all es (formatted l d)))) ≡ true
+    reports : (es : List Event) → lengths-ok (happen-all es w .lent) ≡ true → (before later : List Event) (b : ℕ) → es ≡ before ++ ended (commit b) ∷ later → passes (commit b) (happen-all before w) ≡ true → AllAllowed es w
+        → any (is-commit-of b) (stable-log (stored (happen-all es w))) ≡ true
     reports es z before later b e p a =
         let f : List Event = before ++ ended (commit b) ∷ later in
-        let (x, y) = reported-stays before later b (formatted l d) (formatted-inv l d lens) (subst (λ q. AllAllowed q (formatted l d)) e a) p in
-        let z′ : lengths-ok (happen-all f (formatted l d) .lent) ≡ true = subst (λ q. lengths-ok (happen-all q (formatted l d) .lent) ≡ true) e z in
-        subst (λ q. any (is-commit-of b) (stable-log (stored (happen-all q (formatted l d)))) ≡ true) (sym e) (subst (λ q. any (is-commit-of b) q ≡ true) (sym (logged (happen-all f (formatted l d)) x z′)) y)
+        let (x, y) = reported-stays before later b w i (subst (λ q. AllAllowed q w) e a) p in
+        let z′ : lengths-ok (happen-all f w .lent) ≡ true = subst (λ q. lengths-ok (happen-all q w .lent) ≡ true) e z in
+        subst (λ q. any (is-commit-of b) (stable-log (stored (happen-all q w))) ≡ true) (sym e) (subst (λ q. any (is-commit-of b) q ≡ true) (sym (logged (happen-all f w) x z′)) y)
+
+pub demand-3 : Demand3
+unfolding Demand3
+demand-3 l d lens es a = recovers es (formatted l d) (formatted-inv l d lens) a

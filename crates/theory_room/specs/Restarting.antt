@@ -1,5 +1,5 @@
 -- A restart in the room lent, and the same restart had it another room.
-use Prim.Native.Nat.{ℕ, zero, suc, _-_, _/_, _≤_, _<_}
+use Prim.Native.Nat.{ℕ, zero, suc, _+_, _-_, _/_, _≤_, _<_}
 use mathlib.Core.Path.{_≡_, refl}
 use mathlib.Core.Logic.{_≢_, _⊎_}
 use mathlib.Core.Bool.{Bool, true, false}
@@ -32,7 +32,7 @@ length-records-of (empty ∷ l) = omega arith
 length-records-of (full n r ∷ l) = let h = length-records-of l in omega arith
 length-records-of (other b ∷ l) = omega arith
 
-pub redone-within : (a : Areas) → Reasons.Within (stable-slots a) (redone a)
+redone-within : (a : Areas) → length (redone a .log) + redone a .room ≤ stable-slots a
 unfolding redone
 redone-within a = let l = length-records-of (a .stable .log) in omega arith
 
@@ -49,7 +49,7 @@ module _ (a : Areas) where
 
   pub restarted-within : length (restarted a .log) ≤ length (a .stable .log)
   unfolding restarted
-  restarted-within = let w = Reasons.settle-within (stable-slots a) (redone a) (redone-within a) in omega arith
+  restarted-within = let w = Reasons.settle-within _ (redone a) refl in let h = redone-within a in omega arith
 
   -- ---- "exactly when its written rules need more than were lent"
 
@@ -71,6 +71,15 @@ module _ (a : Areas) where
 
   pub redone-some-room-does : Low (stable-pages a) → (n : ℕ) × (settle (with-room n (redone a)) .stop ≢ 17)
   redone-some-room-does h = Enough.some-room-does (redone a) (redone-going a) (redone-low a h)
+
+  -- With 17 there is no room.
+  pub redone-no-room : (n : ℕ) → settle (with-room n (redone a)) .stop ≡ 17 → settle (with-room n (redone a)) .room ≡ 0
+  redone-no-room n e = by-reason (Reasons.settle-reason (with-room n (redone a)) (redone-going a))
+    where
+      by-reason : Reasons.Reason (settle (with-room n (redone a))) → settle (with-room n (redone a)) .room ≡ 0
+      by-reason (Reasons.goes-on r) = absurd (omega arith)
+      by-reason (Reasons.room-short r d) = d
+      by-reason (Reasons.page-short r d) = absurd (omega arith)
 
 -- ---- bytes: a page that is read has a level below 16, for it has four bits
 

@@ -1,8 +1,12 @@
 pub mod FromSound
 pub mod ToSound
 pub mod StoredPart
+pub mod LineRoom
 pub mod AbortRoom
+pub mod SettleRoom
+pub mod SettleFull
 pub mod SoundAfter
+pub mod RestartRoom
 pub mod SoundKept
 pub mod Kept
 pub mod SortedList

@@ -43,7 +43,8 @@ use Rattle.theory_calls.specs.Checks.{sound-parts, live-batch}
 use Rattle.theory_calls.specs.Passing.{emit-room}
 use Rattle.theory_calls.specs.Within.{abort-within}
 use Rattle.theory_sound.specs.FromSound.{sound-core}
-use Rattle.theory_sound.specs.AbortRoom.{Spent, begin-pages, commit-pages, abort-spent}
+use Rattle.theory_sound.specs.LineRoom.{Spent, begin-pages, commit-pages}
+use Rattle.theory_sound.specs.AbortRoom.{abort-spent}
 use Rattle.theory_sound.specs.SoundAfter.{Reserved, reserved, kept-sound, stored-sound}
 
 -- The areas after a call and all its stores.

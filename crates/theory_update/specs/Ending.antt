@@ -1,7 +1,7 @@
 -- The last record of an update, and what the leaves hold after it.
 use Prim.Native.Nat.{ℕ, suc, _+_, _≤_, _<_}
 use mathlib.Core.Path.{_≡_, refl, sym, ap, _∙_, subst}
-use mathlib.Core.Logic.{_≢_, _⊎_, inl, inr}
+use mathlib.Core.Logic.{_⊎_, inl, inr}
 use mathlib.Core.Option.{none, some}
 use mathlib.Core.Bool.{true}
 use mathlib.Core.List.{List, [], _∷_, _++_}
@@ -25,7 +25,7 @@ use Rattle.theory_tree.specs.Order.Covers.{Covers, insert-leaf, covers-at, remo
 use Rattle.theory_tree.specs.Step.Steps.{Adding, Removing, Step, puts, cuts}
 use Rattle.theory_tree.specs.Step.Parts.{counted-same, length-mid}
 use Rattle.theory_tree.specs.Step.Leaves.{leaves-last}
-use Rattle.theory_update.specs.Run.Keeps.{stuck-emit}
+use Rattle.theory_update.specs.Run.Keeps.{Halt, halt-short, halt-emit}
 use Rattle.theory_update.specs.Run.Way.{Live, Way, more, live-more, Result, went, halted, emit-goes, emit-stops}
 use Rattle.theory_update.specs.Find.Places.{Place}
 use Rattle.theory_update.specs.Add.Descent.{place-small}
@@ -36,7 +36,7 @@ use Rattle.theory_update.specs.Add.LeafRoom.{LeafAt}
 pub data Ended (s : Run) (ls : List (List Node)) (a b : ℕ) (t : Run) (L : List Entry) : Type 0 where
   ended : (ls′ : List (List Node)) → Way s ls t ls′ → Live t ls′ → leaves ls′ ≡ L → s .room ≤ t .room + a → counted ls′ ≤ counted ls + b
       → t .due + t .room ≡ s .due + s .room → length (t .pages) ≡ length (s .pages) → Ended s ls a b t L
-  short : t .stop ≢ 0 → (s .room < a) ⊎ (length (s .pages) < counted ls + b) → Ended s ls a b t L
+  short : Halt t → (s .room < a) ⊎ (length (s .pages) < counted ls + b) → Ended s ls a b t L
 
 -- What is owed of the last record.
 pub record Last (t : Run) (ls : List (List Node)) (r : Rec) (L : List Entry) : Type 0 where
@@ -47,8 +47,8 @@ pub record Last (t : Run) (ls : List (List Node)) (r : Rec) (L : List Entry) : T
 
 pub finish : (s : Run) (ls : List (List Node)) (a b : ℕ) (t : Run) (P : List (List Node) → Type 0) (r : Rec) (L : List Entry) → Result s ls a b t P
     → ((ls₁ : List (List Node)) → Live t ls₁ → leaves ls₁ ≡ leaves ls → P ls₁ → Last t ls₁ r L) → Ended s ls (a + 1) b (emit r t) L
-finish s ls a b t P r L (halted h (inl z)) f = short (stuck-emit r t h) (inl (omega arith))
-finish s ls a b t P r L (halted h (inr z)) f = short (stuck-emit r t h) (inr z)
+finish s ls a b t P r L (halted h (inl z)) f = short (halt-emit r t h) (inl (omega arith))
+finish s ls a b t P r L (halted h (inr z)) f = short (halt-emit r t h) (inr z)
 finish s ls a b t P r L (went ls₁ w p) f = go (case (ltb 0 (t .room))) (f ls₁ (w .live) (w .same) p)
   where
     go : Case (ltb 0 (t .room)) → Last t ls₁ r L → Ended s ls (a + 1) b (emit r t) L
@@ -61,7 +61,7 @@ finish s ls a b t P r L (went ls₁ w p) f = go (case (ltb 0 (t .room))) (f ls�
     go (no! l) x =
         let g = false-lt 0 (t .room) l in
         let y₁ = w .records in
-        subst (λ z. Ended s ls (a + 1) b z L) (sym (emit-stops r t (w .live .goes) l)) (short (λ z. absurd (omega (arith, z))) (inl (omega arith)))
+        subst (λ z. Ended s ls (a + 1) b z L) (sym (emit-stops r t (w .live .goes) l)) (short (halt-short t) (inl (omega arith)))
 
 -- ---- the leaf that covers k
 

@@ -20,7 +20,8 @@ use Rattle.theory_tree.specs.Test.Test.{test-sound, test-complete, rules-levels
 use Rattle.theory_tree.specs.Step.Steps.{Adding, Removing, Noting, Step, notes}
 use Rattle.theory_tree.specs.Step.Parts.{Lows}
 use Rattle.theory_update.specs.Run.Way.{written-by, Live, stay, more, live-more, emit-goes}
-use Rattle.theory_update.specs.Updates.{put-went, remove-went, Finished, enough, unstopped}
+use Rattle.theory_update.specs.Run.Keeps.{Stuck, Halt}
+use Rattle.theory_update.specs.Updates.{put-went, remove-went, Finished, enough, unstopped, stopped-short}
 use Rattle.theory_update.specs.Run.Lawful.{Lawful, way-written, prefix-rules}
 
 -- A run at the start of an update, and again at its end: the pages pass the test, their numbers are below the number due.
@@ -125,6 +126,18 @@ unfolding leaf-records
 remove-unstopped kind batch previous k v u s r kt a th z =
     let ls = levels-of (s .pages) in
     finished-kept s 32 6 _ _ (omega arith) (omega arith) r (unstopped s ls 32 6 _ _ (remove-went kind batch previous k v u s ls (ready-live s r) kt a th) z)
+
+-- Where it stopped for want of a page, none was free.
+
+pub put-stopped : (kind : Kind) (batch previous k v : ℕ) (s : Run) → Ready s → k ≤ top → Adding kind → look k (leaf-records (s .pages)) ≡ none
+    → Stuck (put-record kind batch previous k v s) → Halt (put-record kind batch previous k v s)
+unfolding leaf-records
+put-stopped kind batch previous k v s r kt a ab z = stopped-short s (levels-of (s .pages)) 13 7 _ _ (put-went kind batch previous k v s _ (ready-live s r) kt a ab) z
+
+pub remove-stopped : (kind : Kind) (batch previous k v u : ℕ) (s : Run) → Ready s → k ≤ top → Removing kind v u → look k (leaf-records (s .pages)) ≡ some u
+    → Stuck (remove-record kind batch previous k v s) → Halt (remove-record kind batch previous k v s)
+unfolding leaf-records
+remove-stopped kind batch previous k v u s r kt a th z = stopped-short s (levels-of (s .pages)) 32 6 _ _ (remove-went kind batch previous k v u s _ (ready-live s r) kt a th) z
 
 -- ---- a record that changes no page (a begin, a commit, an abort mark, an end)
 

@@ -15,7 +15,7 @@ use Rattle.def_model.specs.Update.{Run, At, make-room, raise-root, descend-add,
 use Rattle.theory_tree.specs.Shape.Rules.{Rules}
 use Rattle.theory_tree.specs.Shape.Height.{height}
 use Rattle.theory_tree.specs.Step.Steps.{Adding, Removing}
-use Rattle.theory_update.specs.Run.Keeps.{Stuck, stuck-by, stuck-stop, keep-room, keep-descend-add, keep-descend-remove}
+use Rattle.theory_update.specs.Run.Keeps.{Stuck, Halt, halt-by, halt-stop, keep-room, keep-descend-add, keep-descend-remove}
 use Rattle.theory_update.specs.Run.Way.{Live, Way, Result, loosen, bind}
 use Rattle.theory_update.specs.Add.Descent.{Stand, descend-went}
 use Rattle.theory_update.specs.Remove.Restocking.{Rich}
@@ -31,7 +31,7 @@ pub put-went : (kind : Kind) (batch previous k v : ℕ) (s : Run) (ls : List (Li
 unfolding put-record find-add
 put-went kind batch previous k v s ls w kt ad ab =
     finish s ls 12 7 (a .run) (LeafAt k (a .page)) (data-row kind batch previous (a .page) k v) (insert-sorted k v (leaves ls))
-    (bind s ls 1 1 t Top 11 6 (a .run) (LeafAt k (a .page)) (raise-went s ls w) (λ h. keep-room Stuck stuck-by stuck-stop k (d .page) (d .run) (keep-descend-add Stuck stuck-by stuck-stop _ k 1 t h)) then)
+    (bind s ls 1 1 t Top 11 6 (a .run) (LeafAt k (a .page)) (raise-went s ls w) (λ h. keep-room Halt halt-by halt-stop k (d .page) (d .run) (keep-descend-add Halt halt-by halt-stop _ k 1 t h)) then)
     (λ ls₁ v₁ e x. subst (λ z. Last (a .run) ls₁ (data-row kind batch previous (a .page) k v) (insert-sorted k v z)) e (put-last kind batch previous k v (a .page) (a .run) ls₁ ad v₁ x (ap (look k) e ∙ ab)))
   where
     t : Run
@@ -50,7 +50,7 @@ put-went kind batch previous k v s ls w kt ad ab =
         let b = descend-add l k 1 t in
         let c = make-room k (b .page) (b .run) in
         loosen t ls₁ (2 * l + 1) (l + 1) 11 6 (c .run) (LeafAt k (c .page)) (omega arith) (omega arith)
-        (bind t ls₁ (2 * l) l (b .run) (Stand k 0 (b .page)) 1 1 (c .run) (LeafAt k (c .page)) (descend-went l k 1 t ls₁ v₁ st) (keep-room Stuck stuck-by stuck-stop k (b .page) (b .run))
+        (bind t ls₁ (2 * l) l (b .run) (Stand k 0 (b .page)) 1 1 (c .run) (LeafAt k (c .page)) (descend-went l k 1 t ls₁ v₁ st) (keep-room Halt halt-by halt-stop k (b .page) (b .run))
         (λ ls₂ v₂ x. leaf-room k (b .page) (b .run) ls₂ v₂ x))
 
     then : (ls₁ : List (List Node)) → Live t ls₁ → Top ls₁ → Result t ls₁ 11 6 (a .run) (LeafAt k (a .page))
@@ -67,7 +67,7 @@ pub remove-went : (kind : Kind) (batch previous k v u : ℕ) (s : Run) (ls : Lis
 unfolding remove-record
 remove-went kind batch previous k v u s ls w kt rm there =
     finish s ls 31 6 (d .run) (Rich k 0 (d .page)) (data-row kind batch previous (d .page) k v) (remove-key k (leaves ls))
-    (bind s ls 1 1 t Top 30 5 (d .run) (Rich k 0 (d .page)) (raise-went s ls w) (keep-descend-remove Stuck stuck-by stuck-stop _ k 1 t) then)
+    (bind s ls 1 1 t Top 30 5 (d .run) (Rich k 0 (d .page)) (raise-went s ls w) (keep-descend-remove Halt halt-by halt-stop _ k 1 t) then)
     (λ ls₁ v₁ e x. subst (λ z. Last (d .run) ls₁ (data-row kind batch previous (d .page) k v) (remove-key k z)) e (cut-last kind batch previous k v u (d .page) (d .run) ls₁ rm v₁ x (ap (look k) e ∙ there)))
   where
     t : Run
@@ -105,4 +105,9 @@ enough s ls a b t L (short h (inr x)) h₁ h₂ = absurd (omega arith)
 -- Whatever the room: where it did not stop, it finished.
 pub unstopped : (s : Run) (ls : List (List Node)) (a b : ℕ) (t : Run) (L : List Entry) → Ended s ls a b t L → t .stop ≡ 0 → Finished s ls a b t L
 unstopped s ls a b t L (ended ls′ w v e x y n z) h = record { after = ls′; way = w; live = v; holds = e; records = x; taken = y; room = n; size = z }
-unstopped s ls a b t L (short n x) h = absurd (n h)
+unstopped s ls a b t L (short n x) h = absurd (n .stuck h)
+
+-- Where it stopped, it halted.
+pub stopped-short : (s : Run) (ls : List (List Node)) (a b : ℕ) (t : Run) (L : List Entry) → Ended s ls a b t L → Stuck t → Halt t
+stopped-short s ls a b t L (ended ls′ w v e x y n z) h = absurd (h (v .goes))
+stopped-short s ls a b t L (short n x) h = n

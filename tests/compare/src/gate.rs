@@ -29,7 +29,7 @@ const RUNS: [Runs; 5] = [
 
 type Try = (&'static str, fn() -> damage::Tried);
 
-const TRIES: [Try; 26] = [
+const TRIES: [Try; 28] = [
     ("every bit of a stored image turned", damage::bits_of_the_image),
     ("bits of all areas turned, for the other calls", damage::bits_for_other_calls),
     ("every bit of the desk turned", damage::bits_of_the_desk),
@@ -48,6 +48,8 @@ const TRIES: [Try; 26] = [
     ("images past the reserves", damage::shortage),
     ("every bit around each page change turned", damage::bits_around_changes),
     ("each page change forged", damage::forged_around_changes),
+    ("entries out of order around each page change", damage::permuted_around_changes),
+    ("small registers out of order", damage::unsorted_registers),
     ("registers written without the calls' care", damage::careless_registers),
     ("a tree of five levels", edges::risen_tree),
     ("trees of one to six levels", edges::built_trees),

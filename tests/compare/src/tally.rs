@@ -47,6 +47,10 @@ impl Tally {
         }
     }
 
+    pub fn met(&self, made: Call, reason: u32) -> bool {
+        self.answers.contains_key(&(letter_of(&made), reason))
+    }
+
     /// The answers of these calls that are on 01's list and were not met.
     pub fn missed(&self, calls: &[Call]) -> Vec<(char, u32)> {
         let listed = calls.iter().flat_map(|call| {

@@ -57,6 +57,11 @@ fn damaged_images() {
 }
 
 #[test]
+fn leaves_out_of_order() {
+    compare("unsorted", 1, vectors);
+}
+
+#[test]
 fn the_worked_sessions() {
     compare("worked", 1, vectors);
 }

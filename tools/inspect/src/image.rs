@@ -2,7 +2,8 @@
 //!
 //! `NAME.pages` and `NAME.log` hold the two raw areas. Any other name is a file of the example host.
 
-use crate::copies::{self, COPIES, COUNTS_PLACE, PAGE_PLACE, PLACE_BYTES, SLOT_PLACE};
+use crate::copies::{self, number_at, Group, COPIES, COUNTS_PLACE, PAGE_PLACE, PLACE_BYTES, SLOT_PLACE};
+use crate::group::{reading, LastGroup};
 use decode::layout::Areas;
 use decode::sizes::{MOST_PAGES, MOST_SLOTS, PAGE_BYTES, SLOT_BYTES};
 use decode::{Fault, Place};
@@ -28,10 +29,12 @@ pub struct Image {
     /// The stable areas; the working ones are zeros.
     pub areas: Areas,
     pub shape: Shape,
-    /// Places of which neither copy is whole. Their bytes are all ones here, which is no page and no record.
+    /// Places of which no copy can be taken. Their bytes are all ones here, which is no page and no record.
     pub lost: Vec<Lost>,
     /// Places of which the host would write a copy anew, and which copy.
     pub stale_copies: Vec<(Lost, usize)>,
+    /// Of the last call's stores some are not there, though they were.
+    pub lacks_stores: bool,
 }
 
 impl fmt::Display for Lost {
@@ -62,19 +65,21 @@ impl Image {
         let working_pages = vec![0; stable_pages.len()];
         let working_log = vec![0; stable_log.len()];
         let areas = Areas { working_pages, stable_pages, working_log, stable_log };
-        Image { areas, shape: Shape::Raw, lost: Vec::new(), stale_copies: Vec::new() }
+        Image { areas, shape: Shape::Raw, lost: Vec::new(), stale_copies: Vec::new(), lacks_stores: false }
     }
 
     fn of_host(file: &[u8]) -> Image {
         let mut image = Image { shape: Shape::Host, ..Image::raw(Vec::new(), Vec::new()) };
-        let counts = image.take(file, COUNTS_PLACE, Lost::Counts);
+        let counts = image.take(file, &LastGroup::default(), COUNTS_PLACE, Lost::Counts);
         let (pages, slots) = if image.lost.is_empty() { counts_in(&counts) } else { counts_by_copies(file) };
         let mut areas = Areas::default().grown(pages, slots);
+        let last = LastGroup::among(file, (PAGE_PLACE..PAGE_PLACE + pages).chain(SLOT_PLACE..SLOT_PLACE + slots));
+        image.lacks_stores = last.lacks_stores();
         for (page, bytes) in areas.stable_pages.chunks_exact_mut(PAGE_BYTES).enumerate() {
-            bytes.copy_from_slice(&image.take(file, PAGE_PLACE + page, Lost::Page(page))[..PAGE_BYTES]);
+            bytes.copy_from_slice(&image.take(file, &last, PAGE_PLACE + page, Lost::Page(page))[..PAGE_BYTES]);
         }
         for (slot, bytes) in areas.stable_log.chunks_exact_mut(SLOT_BYTES).enumerate() {
-            bytes.copy_from_slice(&image.take(file, SLOT_PLACE + slot, Lost::Slot(slot + 1)));
+            bytes.copy_from_slice(&image.take(file, &last, SLOT_PLACE + slot, Lost::Slot(slot + 1)));
         }
         image.areas = areas;
         image
@@ -90,16 +95,18 @@ impl Image {
         }
     }
 
-    /// What the host reads at a place: the first copy that is whole.
-    fn take(&mut self, file: &[u8], place: usize, what: Lost) -> Vec<u8> {
-        let whole: [Option<&[u8]>; COPIES] = [copies::unseal(file, place, 0), copies::unseal(file, place, 1)];
-        match whole {
-            [None, None] => self.lost.push(what),
-            [None, Some(_)] => self.stale_copies.push((what, 1)),
-            [Some(first), second] if second != Some(first) => self.stale_copies.push((what, 2)),
+    /// What the host reads at a place: the first copy that is whole and not ahead of its group.
+    fn take(&mut self, file: &[u8], last: &LastGroup, place: usize, what: Lost) -> Vec<u8> {
+        let [first, second] = reading(file, place);
+        let first = first.filter(|_| !last.is_ahead(&first)).map(|copy| copy.bytes);
+        let second = second.map(|copy| copy.bytes);
+        match (first, second) {
+            (None, None) => self.lost.push(what),
+            (None, Some(_)) => self.stale_copies.push((what, 1)),
+            (Some(_), _) if second != first => self.stale_copies.push((what, 2)),
             _ => {}
         }
-        whole[0].or(whole[1]).map_or(vec![0xFF; PLACE_BYTES], <[u8]>::to_vec)
+        first.or(second).map_or(vec![0xFF; PLACE_BYTES], <[u8]>::to_vec)
     }
 
     /// Write this image as new files. Nothing that is there is written over.
@@ -132,16 +139,17 @@ impl Image {
 /// Both copies of a place.
 fn put(file: &mut File, place: usize, bytes: &[u8]) -> io::Result<()> {
     let mut block = [0; copies::BLOCK_BYTES];
-    let copy = copies::seal(place, bytes);
+    let copy = copies::seal(place, Group::default(), bytes);
     block[..copy.len()].copy_from_slice(&copy);
-    file.seek(SeekFrom::Start(copies::copy_at(place, 0) as u64))?;
-    file.write_all(&block)?;
-    file.write_all(&block)
+    for which in 0..COPIES {
+        file.seek(SeekFrom::Start(copies::copy_at(place, which) as u64))?;
+        file.write_all(&block)?;
+    }
+    Ok(())
 }
 
 fn counts_in(bytes: &[u8]) -> (usize, usize) {
-    let number = |at: usize| u32::from_be_bytes([bytes[at], bytes[at + 1], bytes[at + 2], bytes[at + 3]]) as usize;
-    (number(0).min(MOST_PAGES), number(4).min(MOST_SLOTS))
+    ((number_at(bytes, 0) as usize).min(MOST_PAGES), (number_at(bytes, 4) as usize).min(MOST_SLOTS))
 }
 
 /// Without the counts: as many pages and slots as there are places of which a copy is whole.

@@ -5,6 +5,7 @@
 
 mod copies;
 mod diff;
+mod group;
 mod image;
 mod log;
 mod salvage;

@@ -59,7 +59,7 @@ fn number_in(word: &str) -> Result<u32, String> {
 
 fn said_why(image: &Image) -> Said {
     let (number, line) = why_image(image);
-    Ok((vec![line], number == 0 && image.lost.is_empty()))
+    Ok((vec![line], number == 0 && image.lost.is_empty() && !image.lacks_stores))
 }
 
 fn said_diff(one: &Image, other: &Image) -> Said {

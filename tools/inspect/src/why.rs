@@ -28,6 +28,9 @@ pub fn why_image(image: &Image) -> (u32, String) {
     let (number, sentence) = why(&image.areas);
     let line = match image.lost.first() {
         Some(lost) => format!("the host ends with status 2: neither copy of {lost} is whole"),
+        None if image.lacks_stores => {
+            "the host ends with status 2: of the last call's stores some are not there".to_string()
+        }
         None => format!("restart answers {number}: {sentence}{}", enough(&image.areas, number)),
     };
     (number, line)

@@ -74,7 +74,7 @@ fn host_file(test: &str, name: &str) -> PathBuf {
 /// Damage one copy (0 or 1) of a place.
 fn damage_copy(path: &Path, place: usize, copy: usize) {
     let mut file = std::fs::read(path).expect("the file");
-    file[(2 * place + copy) * 4096 + 30] ^= 1;
+    file[((place / 64 * 2 + copy) * 64 + place % 64) * 4096 + 30] ^= 1;
     std::fs::write(path, file).expect("the file");
 }
 

@@ -9,7 +9,7 @@ returns c =
     let a = c .before .before .before .before .before .before .before .before .before .before .before .before .before .before .before .before .before .before .before .before .args in
     let work = c .before .before .before .before .before .before .before .before .before .before .before .before .before .format-work in
     let stored = c .before .before .before .before .store-formatted in
-    formatted (a .budget) (a .wp .now) (a .sp .now) (a .wl .now) (a .sl .now) (work .last .0) (stored .last .0) (work .last .1 .0) (stored .last .1 .0) (c .before .before .before .before .before .before .before .before .before .before .before .before .before .before .before .before .before .before .before .before .pre) (work .ensures .0) (work .ensures .1) (work .kept .0) (work .kept .1 .0) (stored .ensures .0) (stored .ensures .1)
+    formatted (a .budget) (a .wp .now) (a .sp .now) (a .wl .now) (a .sl .now) (work .last .0) (stored .last .0) (work .last .1 .0) (stored .last .1 .0) (c .before .before .before .before .before .before .before .before .before .before .before .before .before .before .before .before .before .before .before .before .pre) (work .ensures .0) (work .ensures .1) (work .kept .0) (work .kept .1 .0) (stored .ensures)
 
 pub format-spec : {M : Type 1} → statement M
 format-spec =

@@ -25,7 +25,7 @@ store-slots-requires c κs =
     let p = c .before .before .before .before .before .before .before .before .before .before .before .before .pre in
     let e = c .before .before .before .before .before .note .ensures in
     let k = c .before .before .before .before .before .note .kept .0 in
-    (omega (arith, p .3, e .0), omega (arith, p .2, e .1 (p .4)), omega (arith, p .0, k, e .1 (p .4)))
+    (omega (arith, p .3, e .0), omega (arith, p .1, e .1 (p .4)), omega (arith, p .2, e .1 (p .4)), omega (arith, p .0, k, e .1 (p .4)))
 
 returns-2 : tie.Need-returns-2
 unfolding kind-of
@@ -36,7 +36,7 @@ returns-2 c n wp sp g =
     let e = c .before .before .before .before .before .before .before .before .before .before .before .before .before .note .ensures in
     let i : o .result < 8 = omega (arith, c .before .before .before .before .before .before .before .before .before .before .before .before .before .before .before .if1 .left, o .ensures .0) in
     commit-0 g (a .b) (o .result) (a .budget) _ (o .ensures .1 .place i) i (o .ensures .1 .free i) (c .before .before .before .before .before .before .before .before .before .before .before .before .before .note .result) (e .2 n wp (run-of (areas g)) (g .known .shows sp))
-    _ (c .before .before .before .before .before .before .before .store-slots .ensures .0) (omega (arith, p .3, e .0)) (omega (arith, p .2, e .1 (p .4))) refl
+    _ (c .before .before .before .before .before .before .before .store-slots .ensures) (omega (arith, p .3, e .0)) refl
     (c .with-stored .ensures ∙ ap (λ (q : Desk). record { rows = q .rows; logged = q .logged; stored = c .before .before .before .before .before .before .before .before .before .before .before .before .before .note .result .logged }) (c .before .with-logged .ensures)
     ∙ ap (λ (q : Desk). record { rows = q .rows; logged = c .before .before .before .before .before .before .before .before .before .before .before .before .before .note .result .logged; stored = c .before .before .before .before .before .before .before .before .before .before .before .before .before .note .result .logged }) (c .before .before .with-rows .ensures ∙ ap (λ (rs : List Row). record { rows = rs; logged = a .t4 .logged; stored = a .t4 .stored }) (c .before .before .before .closed .ensures)))
 

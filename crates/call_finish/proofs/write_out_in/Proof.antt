@@ -3,20 +3,18 @@ use borrow.Author.Needs.{needs}
 use Rattle.call_finish.proofs.write_out_in.Statement.{statement}
 use Rattle.call_finish.proofs.write_out_in.Tie as tie
 use mathlib.Core.Path.{refl}
-use native.Mathlib.Omega.{arith}
 use Rattle.call_finish.specs.Ends.{write-out-0}
 
 returns : tie.Need-returns
 returns c st g =
     let a = c .before .before .before .before .before .before .before .before .before .before .before .before .before .before .args in
-    let p = c .before .before .before .before .before .before .before .before .before .before .before .before .before .before .pre in
-    let e = c .before .before .before .before .before .store-all .ensures in
-    write-out-0 g (a .p) (a .budget) _ (p .8) _ _ (e .0) (e .1) (omega (arith, p .5, p .7)) refl (c .with-stored .ensures)
+    write-out-0 g (a .p) (a .budget) _ (c .before .before .before .before .before .before .before .before .before .before .before .before .before .before .pre .8) _ _ (c .before .before .before .before .before .store-first .ensures) refl (c .with-stored .ensures)
 
 pub write-out-in-spec : {M : Type 1} → statement M
 write-out-in-spec =
     tie.close
     (tie.spec
+    (λ c. search needs)
     (λ c. search needs)
     (λ c. search needs)
     (λ c κs. search needs)

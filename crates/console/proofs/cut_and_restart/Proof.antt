@@ -2,12 +2,13 @@
 use borrow.Author.Needs.{needs}
 use Rattle.console.proofs.cut_and_restart.Statement.{statement}
 use Rattle.console.proofs.cut_and_restart.Tie as tie
+use Rattle.def_layout.specs.Desks.{empty-desk}
 use Rattle.console.specs.Obeyed.{restarted}
 
 returns : tie.Need-returns
 returns c =
     let a = c .before .before .before .before .before .before .before .before .before .before .before .before .before .before .before .before .before .before .before .before .before .before .before .before .args in
-    restarted (a .wp .now) (a .wl .now) (a .sp .now) (a .sl .now) _ _ _ _ _ (c .before .before .before .before .before .before .before .before .before .before .before .before .before .before .before .before .before .before .zero .ensures) (c .before .before .before .before .before .before .before .before .before .before .before .before .before .before .zero2 .ensures) (c .before .before .before .before .before .before .before .idle-desk .ensures) (c .before .before .before .before .before .before .restart .ensures)
+    restarted (a .wp .now) (a .wl .now) (a .sp .now) (a .sl .now) _ _ empty-desk _ _ _ (c .before .before .before .before .before .before .before .before .before .before .before .before .before .before .before .before .before .before .zero .ensures) (c .before .before .before .before .before .before .before .before .before .before .before .before .before .before .zero2 .ensures) (c .before .before .before .before .before .before .before .idle-desk .ensures) (c .before .before .before .before .before .before .restart .ensures)
 
 pub cut-and-restart-spec : {M : Type 1} → statement M
 cut-and-restart-spec =

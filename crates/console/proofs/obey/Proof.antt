@@ -3,7 +3,7 @@ use borrow.Author.Needs.{needs}
 use Rattle.console.proofs.obey.Statement.{statement}
 use Rattle.console.proofs.obey.Tie as tie
 use Rattle.area_lengths.specs.Lent.{lent}
-use Rattle.console.specs.Obeyed.{obeyed-as}
+use Rattle.console.specs.Obeyed.{obeyed-as, replied}
 use mathlib.Core.Path.{refl}
 
 returns-9 : tie.Need-returns-9
@@ -14,7 +14,7 @@ returns-9 c =
 returns-10 : tie.Need-returns-10
 returns-10 c =
     let a = c .before .before .before .before .before .before .args in
-    obeyed-as (lent (a .wp .now) (a .sp .now) (a .wl .now) (a .sl .now)) (a .d) _ _ (c .enum-told3 .given .1) (refl, refl, refl)
+    obeyed-as (lent (a .wp .now) (a .sp .now) (a .wl .now) (a .sl .now)) (a .d) _ _ (c .enum-told3 .given .1) refl
 
 pub obey-spec : {M : Type 1} → statement M
 obey-spec =
@@ -43,42 +43,42 @@ obey-spec =
     (λ c. search needs)
     (λ c. search needs)
     (λ c. search needs)
-    (λ c. obeyed-as _ _ _ _ (c .before .before .before .before .before .before .before .enum-told .given .1) (c .before .before .begin .ensures _))
+    (λ c. obeyed-as _ _ _ _ (c .before .before .before .before .before .before .before .enum-told .given .1) (replied (c .before .before .begin .ensures _)))
     (λ c. search needs)
     (λ c. search needs)
     (λ c. search needs)
     (λ c. search needs)
-    (λ c. obeyed-as _ _ _ _ (c .before .before .before .before .before .before .before .before .before .before .c .given .1) (c .before .before .before .before .insert .ensures _))
+    (λ c. obeyed-as _ _ _ _ (c .before .before .before .before .before .before .before .before .before .before .c .given .1) (replied (c .before .before .before .before .insert .ensures _)))
     (λ c. search needs)
     (λ c. search needs)
     (λ c. search needs)
     (λ c. search needs)
-    (λ c. obeyed-as _ _ _ _ (c .before .before .before .before .before .before .before .before .before .before .c2 .given .1) (c .before .before .before .before .delete .ensures _))
+    (λ c. obeyed-as _ _ _ _ (c .before .before .before .before .before .before .before .before .before .before .c2 .given .1) (replied (c .before .before .before .before .delete .ensures _)))
     (λ c. search needs)
     (λ c. search needs)
     (λ c. search needs)
     (λ c. search needs)
-    (λ c. obeyed-as _ _ _ _ (c .before .before .before .before .before .before .c3 .given .1) (c .fetch .ensures _))
+    (λ c. obeyed-as _ _ _ _ (c .before .before .before .before .before .before .c3 .given .1) (replied (c .fetch .ensures _)))
     (λ c. search needs)
     (λ c. search needs)
     (λ c. search needs)
     (λ c. search needs)
-    (λ c. obeyed-as _ _ _ _ (c .before .before .before .before .before .before .c4 .given .1) (c .next .ensures _))
+    (λ c. obeyed-as _ _ _ _ (c .before .before .before .before .before .before .c4 .given .1) (replied (c .next .ensures _)))
     (λ c. search needs)
     (λ c. search needs)
     (λ c. search needs)
     (λ c. search needs)
-    (λ c. obeyed-as _ _ _ _ (c .before .before .before .before .before .before .before .before .before .before .c5 .given .1) (c .before .before .before .before .commit .ensures))
+    (λ c. obeyed-as _ _ _ _ (c .before .before .before .before .before .before .before .before .before .before .c5 .given .1) (replied (c .before .before .before .before .commit .ensures)))
     (λ c. search needs)
     (λ c. search needs)
     (λ c. search needs)
     (λ c. search needs)
-    (λ c. obeyed-as _ _ _ _ (c .before .before .before .before .before .before .before .before .before .before .c6 .given .1) (c .before .before .before .before .abort .ensures _))
+    (λ c. obeyed-as _ _ _ _ (c .before .before .before .before .before .before .before .before .before .before .c6 .given .1) (replied (c .before .before .before .before .abort .ensures _)))
     (λ c. search needs)
     (λ c. search needs)
     (λ c. search needs)
     (λ c. search needs)
-    (λ c. obeyed-as _ _ _ _ (c .before .before .before .before .before .before .before .before .before .before .c7 .given .1) (c .before .before .before .before .write-out .ensures))
+    (λ c. obeyed-as _ _ _ _ (c .before .before .before .before .before .before .before .before .before .before .c7 .given .1) (replied (c .before .before .before .before .write-out .ensures)))
     (λ c. search needs)
     (λ c. search needs)
     (λ c. search needs)

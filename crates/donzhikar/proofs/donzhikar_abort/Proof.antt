@@ -2,16 +2,17 @@
 use borrow.Author.Needs.{needs}
 use Rattle.donzhikar.proofs.donzhikar_abort.Statement.{statement}
 use Rattle.donzhikar.proofs.donzhikar_abort.Tie as tie
-use mathlib.Core.Path.{_∙_}
+use mathlib.Core.Path.{refl, _∙_}
 
 pub donzhikar-abort-spec : {M : Type 1} → statement M
 donzhikar-abort-spec =
     tie.close
     (tie.spec
     (λ c κs. search needs)
+    (λ c κs. search needs)
     (λ c. search needs)
     (λ c. search needs)
-    (λ c. c .before .asked .ensures .refuses (c .if1 .taken) _ _)
+    (λ c. c .before .before .before .before .refuse .ensures _ _ refl (c .before .before .before .before .before .before .before .before .asked .ensures .wrong (c .before .before .before .before .before .before .before .if1 .taken)))
     (λ c κs. search needs)
     (λ c κs. c .before .before .before .before .before .before .before .before .before .before .before .asked .ensures .sizes (c .before .before .before .before .before .before .before .before .before .before .if1 .left))
     (λ c. search needs)

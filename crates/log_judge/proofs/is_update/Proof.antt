@@ -37,7 +37,7 @@ returns-8 c =
     (omega (arith, p .ensures, c .before .before .before .before .before .if5 .left)) (omega (arith, p .ensures, c .before .before .before .before .if6 .left))
     (sym (c .before .before .before .get324 .ensures) ∙ c .before .before .if7 .left)
     (tail-clear (a .b .now) (c .before .before .before .before .before .before .before .before .before .before .before .before .before .before .pre) _ (c .is-zero .ensures) e)
-    (w .result) (w .ensures) (c .before .before .before .before .before .before .before .before .before .before .before .if1 .left) (omega (arith, c .before .before .before .before .before .before .before .before .before .before .if2 .left)) (omega (arith, c .before .before .before .before .before .before .before .before .before .if3 .left))
+    (w .result) (w .ensures) (c .before .before .before .before .before .before .before .before .before .before .before .if1 .left) (omega (arith, c .before .before .before .before .before .before .before .before .before .before .if2 .left)) (omega (arith, c .before .before .before .before .before .before .before .before .before .before .if2 .left)) (omega (arith, c .before .before .before .before .before .before .before .before .before .if3 .left))
     (sym (c .before .before .before .before .before .before .before .before .get322 .ensures) ∙ c .before .before .before .before .before .before .before .if4 .left)
 
 pub is-update-spec : {M : Type 1} → statement M

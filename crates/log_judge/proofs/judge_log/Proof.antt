@@ -7,7 +7,7 @@ use Prim.Native.Nat.{_≤_, _-_}
 use mathlib.Core.Path.{sym, refl, _∙_}
 use borrow.Author.Tests.{not-true, not-false}
 use Rattle.log_chain.specs.Shown.{shows-none}
-use Rattle.log_judge.specs.Updates.{update-full}
+use Rattle.log_judge.specs.Updates.{plain-full}
 use Rattle.log_judge.specs.Turns.{update-halts, update-goes}
 use Rattle.log_judge.specs.Judging.{Going, going-start, going-low, going-on, going-off, ends-empty, ends-all}
 
@@ -27,7 +27,7 @@ returns c =
     let a = c .before .before .before .before .before .before .before .before .before .before .args in
     let l = c .before .before .before .before .before .before .before .loop in
     let u = c .before .before .before .before .before .update-at .ensures (c .before .before .before .if1 .taken) in
-    going-off (a .n) (a .m) (a .log .now) (l .i) (l .rows) (l .marked) (l .inv .1) (c .before .before .before .before .before .before .loop-test .taken) _ (update-full _ _ _ (u .holds))
+    going-off (a .n) (a .m) (a .log .now) (l .i) (l .rows) (l .marked) (l .inv .1) (c .before .before .before .before .before .before .loop-test .taken) _ (plain-full _ _ _ (u .holds))
     (update-halts (a .n) (a .m) (a .log .now) (l .i) (l .rows) (l .marked) _ u _ (c .before .before .going-on .ensures .1) (c .before .if2 .taken)) refl _ (c .broken .ensures)
 
 longer-requires : tie.Need-longer-requires Inv-loop μ-loop

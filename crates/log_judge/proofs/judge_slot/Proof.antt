@@ -1,39 +1,28 @@
--- `judge_slot`: no record, one that is not in order, or the record's step.
+-- `judge_slot`: by its words, or the long way.
 use borrow.Author.Needs.{needs}
 use Rattle.log_judge.proofs.judge_slot.Statement.{statement}
 use Rattle.log_judge.proofs.judge_slot.Tie as tie
-use mathlib.Core.Path.{sym, _∙_}
-use borrow.Author.Tests.{not-true, not-false}
-use Rattle.log_judge.proofs.NotFull.{no-record}
-use Rattle.log_judge.specs.Turns.{turned-none, out-of-order, turned-step}
+use native.Mathlib.Omega.{arith}
+use Rattle.log_judge.specs.Turns.{by-step}
+
+step-requires : tie.Need-step-requires
+step-requires c κs =
+    let p = c .before .before .before .before .pre in
+    let t = c .before .before .batch-at .ensures (c .if1 .taken) in
+    (p .0, p .1, search needs, t .small, p .3)
 
 returns : tie.Need-returns
 returns c =
-    let a = c .before .before .before .before .args in
-    λ log bs rd l hd s. turned-none (a .n) _ _ bs _ (no-record _ _ _ _ (c .before .match .keys2) (c .before .before .read-at .ensures)) (c .refused .ensures)
-
-returns-2 : tie.Need-returns-2
-returns-2 c =
-    let a = c .before .before .before .before .before .before .before .before .args in
-    out-of-order (a .n) (a .m) (a .log .now) (a .i) (a .rows) (a .marked) _ _ _ _ _ _ _ _ _ _ _ _ _ _ _ (c .before .before .before .before .before .before .read-at .ensures) (c .before .before .before .before .header .given .1) (sym (c .before .before .in-order .ensures) ∙ not-true _ (c .before .if1 .taken)) (c .refused2 .ensures)
-
-returns-3 : tie.Need-returns-3
-returns-3 c =
-    let a = c .before .before .before .before .before .before .before .before .before .args in
-    turned-step (a .n) (a .m) (a .log .now) (a .i) (a .rows) (a .marked) _ _ _ _ _ _ _ _ _ _ _ _ _ _ _ (c .before .before .before .before .before .before .before .read-at .ensures) (c .before .before .before .before .before .header .given .1) (sym (c .before .before .before .in-order .ensures) ∙ not-false _ (c .before .before .if1 .left)) _ (c .before .kind-number .ensures .0) (c .step .ensures)
+    let a = c .before .before .before .before .before .args in
+    let t = c .before .before .before .batch-at .ensures (c .before .if1 .taken) in
+    by-step (a .n) (a .m) (a .log .now) (a .i) (a .rows) (a .marked) _ (t .holds) (t .told) _ (c .step .ensures)
 
 pub judge-slot-spec : {M : Type 1} → statement M
 judge-slot-spec =
     tie.close
     (tie.spec
-    (λ c. search needs)
     (λ c κs. search needs)
-    (λ c. search needs)
-    (λ c κs. search needs)
+    step-requires
     returns
     (λ c κs. search needs)
-    (λ c κs. search needs)
-    returns-2
-    (λ c κs. search needs)
-    (λ c κs. search needs)
-    returns-3)
+    (λ c. search needs))

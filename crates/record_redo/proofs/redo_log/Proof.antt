@@ -20,22 +20,22 @@ loop-holds c = (search needs, refl, search needs, no-turn _ _ _ _ _)
 
 returns : tie.Need-returns Inv-loop μ-loop
 returns c =
-    let l = c .before .before .before .before .before .before .before .before .loop in
-    let d = c .before .before .before .before .redo-places in (
+    let l = c .before .before .before .before .before .before .before .loop in
+    let d = c .before .before .before .before .redo-slot in (
       search needs,
       λ xs q h g e.
-          turn-off (l .i) (l .count) (c .before .before .before .before .before .before .record-at .result) (d .result) (c .before .before .before .before .before .before .record-at .ensures .1) (d .ensures .1) xs q g (omega (arith, e, c .before .before .before .before .before .before .before .loop-test .taken)) (l .inv .3 xs q h g e) (not-true _ (c .if1 .taken)),
+          turn-off (l .i) (l .count) (d .result) (d .ensures .1) xs q g (omega (arith, e, c .before .before .before .before .before .before .loop-test .taken)) (l .inv .3 xs q h g e) (not-true _ (c .if1 .taken)),
     )
 
 loop-again : tie.Need-loop-again Inv-loop μ-loop
 loop-again c =
-    let l = c .before .before .before .before .before .before .before .before .before .loop in
-    let d = c .before .before .before .before .before .redo-places in (
+    let l = c .before .before .before .before .before .before .before .before .loop in
+    let d = c .before .before .before .before .before .redo-slot in (
       search needs,
       search needs,
       search needs,
       λ xs q h g e.
-          turn-on (l .i) (l .count) (c .before .before .before .before .before .before .before .record-at .result) (d .result) (c .before .before .before .before .before .before .before .record-at .ensures .1) (d .ensures .1) xs q g (omega (arith, e, c .before .before .before .before .before .before .before .before .loop-test .taken)) (l .inv .3 xs q h g e) (not-false _ (c .before .if1 .left)),
+          turn-on (l .i) (l .count) (d .result) (d .ensures .1) xs q g (omega (arith, e, c .before .before .before .before .before .before .before .loop-test .taken)) (l .inv .3 xs q h g e) (not-false _ (c .before .if1 .left)),
     )
 
 returns-2 : tie.Need-returns-2 Inv-loop μ-loop
@@ -50,8 +50,6 @@ redo-log-spec =
     Inv-loop
     μ-loop
     loop-holds
-    (λ c. search needs)
-    (λ c κs. search needs)
     (λ c. search needs)
     (λ c κs. search needs)
     (λ c. search needs)

@@ -45,7 +45,7 @@ level-sound b least from (n ∷ ns) t =
       ((true-le _ _ t₄, true-le _ _ t₅), z),
     )
 
-kind-sound : (k j : PageKind) → kind-is k j ≡ true → k ≡ j
+pub kind-sound : (k j : PageKind) → kind-is k j ≡ true → k ≡ j
 unfolding kind-is page-kind-number
 kind-sound free free t = refl
 kind-sound free leaf t = clash (sym t)

@@ -11,7 +11,7 @@ use Rattle.def_layout.specs.Pages.{Page}
 use Rattle.def_model.specs.TreeRules.{Node}
 use Rattle.def_model.specs.Update.{Run, Pair, direct, descend-add}
 use Rattle.theory_tree.specs.Shape.Trees.{Levels, levels-at, all-cut, Direct}
-use Rattle.theory_update.specs.Run.Keeps.{Stuck, stuck-by, stuck-stop, keep-descend-add}
+use Rattle.theory_update.specs.Run.Keeps.{Halt, halt-by, halt-stop, keep-descend-add}
 use Rattle.theory_update.specs.Run.Way.{Live, Result, idle, loosen, bind, recast}
 use Rattle.theory_update.specs.Find.Places.{Place, Spot, open-place, Stands, alone, pair, stands, child-place, child-direct}
 use Rattle.theory_update.specs.Add.Linking.{Any, PairAt}
@@ -71,4 +71,4 @@ descend-went (suc l) k page s ls v st =
     let u = descend-add l k (d .child) (d .run) in
     loosen s ls (2 + 2 * l) (1 + l) (2 * suc l) (suc l) (u .run) (Stand k 0 (u .page)) (omega arith) (omega arith)
     (bind s ls 2 1 (d .run) (Stand k l (d .child)) (2 * l) l (u .run) (Stand k 0 (u .page)) (direct-add k l page s ls v st)
-    (keep-descend-add Stuck stuck-by stuck-stop l k (d .child) (d .run)) (λ ls₁ w x. descend-went l k (d .child) (d .run) ls₁ w x))
+    (keep-descend-add Halt halt-by halt-stop l k (d .child) (d .run)) (λ ls₁ w x. descend-went l k (d .child) (d .run) ls₁ w x))

@@ -16,7 +16,7 @@ use Rattle.def_model.specs.TreeRules.{Node}
 use Rattle.def_model.specs.Lookup.{covering, entry-or}
 use Rattle.def_model.specs.Update.{Run, At, make-room, link-child, Pair, linked-by, direct-by, direct-for, direct}
 use Rattle.theory_tree.specs.Shape.Trees.{Levels, Direct, page-at}
-use Rattle.theory_update.specs.Run.Keeps.{Stuck, stuck-by, stuck-stop, keep-link}
+use Rattle.theory_update.specs.Run.Keeps.{Halt, halt-by, halt-stop, keep-link}
 use Rattle.theory_update.specs.Run.Way.{Live, Result, idle, loosen, bind, recast}
 use Rattle.theory_update.specs.Find.Search.{seek-at}
 use Rattle.theory_update.specs.Find.Places.{Spot, searched, Stands, alone, pair}
@@ -101,7 +101,7 @@ unfolding linked-by link-child
 direct-halved k s ls ups xs n ys e q m l p i lo hi d full v =
     subst (λ z. Result s ls 2 1 (z .run) (HalfAt k l (z .parent) (z .child))) (sym is-direct)
     (bind s ls 1 1 (a .run) (RoomAt k l e (q ∷ m ∷ []) (a .page)) 1 0 (c .run) (HalfAt k l (c .parent) (c .child)) (room-went k s ls ups xs n ys e (q ∷ m ∷ []) l p d full v)
-    (stuck-link (a .run)) then)
+    (halt-link (a .run)) then)
   where
     a : At
     a = make-room k (n .page) s
@@ -109,8 +109,8 @@ direct-halved k s ls ups xs n ys e q m l p i lo hi d full v =
     c : Pair
     c = linked-by k e a
 
-    stuck-link : (t : Run) → Stuck t → Stuck (linked-by k e (record { run = t; page = a .page }) .run)
-    stuck-link t h = keep-link Stuck stuck-by stuck-stop (a .page) (e .val) (e .key) t h
+    halt-link : (t : Run) → Halt t → Halt (linked-by k e (record { run = t; page = a .page }) .run)
+    halt-link t h = keep-link Halt halt-by halt-stop (a .page) (e .val) (e .key) t h
 
     is-direct : direct k (n .page) s ≡ c
     is-direct =

@@ -22,7 +22,7 @@ use Rattle.theory_tree.specs.Shape.Trees.{Levels, levels-at, all-cut, Direct, p
 use Rattle.theory_tree.specs.Shape.Sizes.{Sized, SizedLevel, Sizes, sizes-at}
 use Rattle.theory_tree.specs.Shape.Rules.{Rooted}
 use Rattle.theory_tree.specs.Step.Steps.{lowered, lowers}
-use Rattle.theory_update.specs.Run.Keeps.{Stuck, stuck-by, stuck-stop, keep-step, keep-descend-remove}
+use Rattle.theory_update.specs.Run.Keeps.{Halt, halt-by, halt-stop, keep-step, keep-descend-remove}
 use Rattle.theory_update.specs.Run.Way.{Live, Result, idle, loosen, bind, emitted}
 use Rattle.theory_update.specs.Find.Places.{Spot, index-node, open-place, Stands, alone, pair, stands, direct-same}
 use Rattle.theory_update.specs.Add.Linking.{Any, PairAt}
@@ -148,8 +148,8 @@ module _ (k l : ℕ) (t : Run) (ls ups : List (List Node)) (xs : List Node) (n :
 
 -- ---- one step, and all of them
 
-stuck-step : (k : ℕ) (d : Pair) → Stuck (d .run) → Stuck (step-by (lone d) k d .run)
-stuck-step k d h = keep-step Stuck stuck-by stuck-stop _ k d h
+halt-step : (k : ℕ) (d : Pair) → Halt (d .run) → Halt (step-by (lone d) k d .run)
+halt-step k d h = keep-step Halt halt-by halt-stop _ k d h
 
 pair-path : (d : Pair) (a b : ℕ) → d .parent ≡ a → d .child ≡ b → _≡_ {A = Pair} d (record { run = d .run; parent = a; child = b })
 pair-path d a b p q = λ i. record { run = d .run; parent = p i; child = q i }
@@ -183,7 +183,7 @@ step-went k l page s ls v rc =
     whole : Result s ls 1 0 (d .run) (PairAt k l (st .ups) (st .xs) (st .node) (st .ys) Any (d .parent) (d .child))
         → Result s ls 6 1 (a .run) (Rich k l (a .page))
     whole r =
-        bind s ls 1 0 (d .run) _ 5 1 (a .run) (Rich k l (a .page)) r (stuck-step k d)
+        bind s ls 1 0 (d .run) _ 5 1 (a .run) (Rich k l (a .page)) r (halt-step k d)
         (λ ls₁ w x.
         let sm = all-cut (λ z. length (z .items) ≤ room) (st .xs) (x .node) (st .ys)
         (levels-at (d .run .pages) (st .ups) (st .xs ++ x .node ∷ st .ys) ((x .spot .bs ++ x .q ∷ x .spot .cs) ∷ x .spot .downs) (subst (Levels (d .run .pages)) (x .spot .whole) (w .rules .levels)) .small) .1 in
@@ -197,7 +197,7 @@ step-went k l page s ls v rc =
     go e mid p (alone q i h) (yes f) = whole (direct-alone k s ls (st .ups) (st .xs) (st .node) (st .ys) e q l p i h v)
     go e mid p (pair q m i lo hi) (yes f) =
         bind s ls 2 1 (d .run) (HalfAt k l (d .parent) (d .child)) 4 0 (a .run) (Rich k l (a .page))
-        (direct-halved k s ls (st .ups) (st .xs) (st .node) (st .ys) e q m l p i lo hi (st .direct) (omega (arith, small)) v) (stuck-step k d)
+        (direct-halved k s ls (st .ups) (st .xs) (st .node) (st .ys) e q m l p i lo hi (st .direct) (omega (arith, small)) v) (halt-step k d)
         (λ ls₁ w x.
         subst (λ z. Result (d .run) ls₁ 4 0 (step-by (lone z) k z .run) (Rich k l (step-by (lone z) k z .page))) (sym (pair-path d (x .node .page) (x .q .page) (x .is-parent) (x .is-child)))
         (step-half k l (d .run) ls₁ (x .ups) (x .xs) (x .node) (x .ys) (x .entry) (x .q) (x .spot) (x .is) (x .ends) w (x .least) (x .few)))
@@ -212,4 +212,4 @@ removal-went (suc l) k page s ls v st =
     let u = descend-remove l k (a .page) (a .run) in
     loosen s ls (6 + 6 * l) (1 + l) (6 * suc l) (suc l) (u .run) (Rich k 0 (u .page)) (omega arith) (omega arith)
     (bind s ls 6 1 (a .run) (Rich k l (a .page)) (6 * l) l (u .run) (Rich k 0 (u .page)) (step-went k l page s ls v st)
-    (keep-descend-remove Stuck stuck-by stuck-stop l k (a .page) (a .run)) (λ ls₁ w x. removal-went l k (a .page) (a .run) ls₁ w x))
+    (keep-descend-remove Halt halt-by halt-stop l k (a .page) (a .run)) (λ ls₁ w x. removal-went l k (a .page) (a .run) ls₁ w x))

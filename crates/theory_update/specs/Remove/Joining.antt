@@ -27,7 +27,7 @@ use Rattle.theory_tree.specs.Shape.Sizes.{Sized, sizes-at, sizes-below}
 use Rattle.theory_tree.specs.Step.Steps.{unlinked, unlinks, merges, shares}
 use Rattle.theory_tree.specs.Step.Parts.{counted-same, length-mid, length-two, length-pair, under, counted-under, counted-under-more}
 use Rattle.theory_tree.specs.Step.Leaves.{leaves-above, leaves-under}
-use Rattle.theory_update.specs.Run.Keeps.{Stuck, stuck-by, stuck-stop, keep-link, keep-join-by}
+use Rattle.theory_update.specs.Run.Keeps.{Halt, halt-by, halt-stop, keep-link, keep-join-by}
 use Rattle.theory_update.specs.Run.Way.{Live, Result, loosen, bind, recast, emitted}
 use Rattle.theory_update.specs.Find.Places.{Spot}
 use Rattle.theory_update.specs.Add.Linking.{link-down}
@@ -174,7 +174,7 @@ module _ (k l : ℕ) (s : Run) (ups : List (List Node)) (xs : List Node) (n : No
             (emitted row s T T′ 0 (λ z. z ≡ T′) (a .live)
             (shares ups (xs ++ n ∷ ys) bs q r cs downs (flat xs ++ pre) g (post ++ flat ys) key moved flat-g refl refl (a .before) (a .beyond) (sh .parts) (omega arith, omega arith) (omega arith, omega arith))
             (leaves-under ups (xs ++ n ∷ ys) (bs ++ q ∷ r ∷ cs) (bs ++ q′ ∷ r′ ∷ cs) downs (share-flat q r (merged q r) q′ r′ mg (sh .parts) bs cs)) (omega arith) (λ w. refl))
-            (keep-link Stuck stuck-by stuck-stop (n .page) (q .page) (r .high) t)
+            (keep-link Halt halt-by halt-stop (n .page) (q .page) (r .high) t)
             (λ ls₁ v e. recast t ls₁ 1 0 (link-child (n .page) (q .page) (r .high) t) _ (StockedAt k l (n .page))
             (λ ls′ w x. record { ups = ups; xs = xs; node = x .node; ys = ys; entry = x .entry; q = x .q; spot = x .spot; is = x .is; ends = x .ends; is-parent = sym (x .same-page); rich = x .has })
             (link-down k t ls₁ ups xs n ys g q′ r′ l Five (subst (λ z. Spot k z ups xs n ys g (q′ ∷ r′ ∷ []) l) (sym e) sp) refl lo refl (a .space) (omega arith) (omega arith) v))
@@ -197,9 +197,9 @@ module _ (k l : ℕ) (s : Run) (ups : List (List Node)) (xs : List Node) (n : No
             let h : room < size (at (s .pages) (q .page)) + size (at (s .pages) (r .page)) = false-le _ _ c in
             subst (λ z. Result s T 2 0 (join-by z (n .page) (q .page) (r .page) (r .high) s) (StockedAt k l (n .page))) (sym c) (shared-went (omega arith))
 
-stuck-joined : (p l r w : ℕ) (u : Run) → Stuck u → Stuck (join p l r w u)
+halt-joined : (p l r w : ℕ) (u : Run) → Halt u → Halt (join p l r w u)
 unfolding join
-stuck-joined p l r w u h = keep-join-by Stuck stuck-by stuck-stop _ p l r w u h
+halt-joined p l r w u h = keep-join-by Halt halt-by halt-stop _ p l r w u h
 
 -- Twins: unlinked, and joined.
 pub twins-went : (k l : ℕ) (s : Run) (ls ups : List (List Node)) (xs : List Node) (n : Node) (ys : List Node) (q r : Node) → Live s ls
@@ -246,10 +246,10 @@ twins-went k l s ls ups xs n ys q r v₀ t loses =
         (unlinks ups xs n ys (t .bs) q r (t .cs) (t .downs) (t .pre) (t .e) (t .f) (t .post) (t .items) (t .e-is) (sym (t .e-ends)) (t .f-is) (sym (t .f-ends)) qr (t .before) (t .beyond)
         (sized-loses ups (length (t .downs)) xs n n₁ ys loses (omega arith) sm (sizes-at ups (xs ++ n ∷ ys) ((t .bs ++ q ∷ r ∷ t .cs) ∷ t .downs) (v .rules .sizes))))
         (leaves-above ups (xs ++ n ∷ ys) (xs ++ n₁ ∷ ys) (t .bs ++ q ∷ r ∷ t .cs) (t .downs)) (omega arith) (λ w. refl))
-        (stuck-join u)
+        (halt-join u)
         (λ ls₁ w e. subst (λ z. Result u z 2 0 (join (n .page) (q .page) (r .page) (r .high) u) (StockedAt k l (n .page))) (sym e)
         (joined-went k l u ups xs n₁ ys (t .bs) q r (t .cs) (t .downs) (t .pre) (t .post)
         (record { live = subst (Live u) e w; depth = t .depth; items = refl; before = t .before; beyond = t .beyond; low = t .low; high = omega arith; four = t .four; space = omega arith }))))
       where
-        stuck-join : (u : Run) → Stuck u → Stuck (join (n .page) (q .page) (r .page) (r .high) u)
-        stuck-join u h = stuck-joined (n .page) (q .page) (r .page) (r .high) u h
+        halt-join : (u : Run) → Halt u → Halt (join (n .page) (q .page) (r .page) (r .high) u)
+        halt-join u h = halt-joined (n .page) (q .page) (r .page) (r .high) u h

@@ -22,7 +22,7 @@ use Rattle.theory_tree.specs.Shape.Chains.{IsNode}
 use Rattle.theory_tree.specs.Shape.Trees.{Levels, all-cut, Direct, page-at}
 use Rattle.theory_tree.specs.Shape.Sizes.{Sized, Sizes, sizes-below}
 use Rattle.theory_tree.specs.Step.Parts.{under}
-use Rattle.theory_update.specs.Run.Keeps.{Stuck, stuck-by, stuck-stop, keep-unlink-join, keep-entry}
+use Rattle.theory_update.specs.Run.Keeps.{Halt, halt-by, halt-stop, keep-unlink-join, keep-entry}
 use Rattle.theory_update.specs.Run.Way.{Live, Result, idle, loosen, bind, recast}
 use Rattle.theory_update.specs.Find.Search.{seek-at, next-at, before-at}
 use Rattle.theory_update.specs.Find.Places.{Spot, Searched, searched, child-place, child-direct}
@@ -64,7 +64,7 @@ module _ (k l : ℕ) (s : Run) (ls ups : List (List Node)) (xs : List Node) (n :
       → Result s ls 4 0 (unlink-join (n .page) lp rp t) (StockedAt k l (n .page))
   twin-join t lp rp r =
       bind s ls 1 0 t (TwinAt k l ups xs n ys lp rp) 3 0 (unlink-join (n .page) lp rp t) (StockedAt k l (n .page)) r
-      (keep-unlink-join Stuck stuck-by stuck-stop (n .page) lp rp t)
+      (keep-unlink-join Halt halt-by halt-stop (n .page) lp rp t)
       (λ ls₁ w x.
       subst (λ z. Result t ls₁ 3 0 (unlink-join (n .page) z rp t) (StockedAt k l (n .page))) (sym (x .is-left))
       (subst (λ z. Result t ls₁ 3 0 (unlink-join (n .page) (x .q .page) z t) (StockedAt k l (n .page))) (sym (x .is-right))
@@ -131,9 +131,9 @@ refind-is k l t ls ups xs n ys e c p is ends v =
     let h = p .high in
     rw (np .items, f, is, cp .high, le-true k (c .high) (omega arith))
 
-stuck-restock : (k q : ℕ) (a : At) → Stuck (a .run) → Stuck (restock k q a)
+halt-restock : (k q : ℕ) (a : At) → Halt (a .run) → Halt (restock k q a)
 unfolding restock
-stuck-restock k q a h = keep-entry Stuck stuck-by stuck-stop _ _ _ _ _ h
+halt-restock k q a h = keep-entry Halt halt-by halt-stop _ _ _ _ _ h
 
 -- A place for a removal: the node may lose an entry, or is the root alone.
 pub record Rich (k l page : ℕ) (ls : List (List Node)) : Type 0 where
@@ -194,7 +194,7 @@ module _ (k l : ℕ) (t : Run) (ls ups : List (List Node)) (xs : List Node) (n :
       let a = make-room k (n .page) t in
       let u = restock k (q .page) a in
       bind t ls 1 1 (a .run) (RoomAt k l e (q ∷ []) (a .page)) 4 0 u (Rich k l (refind k (a .page) u .page)) (room-went k t ls ups xs n ys e (q ∷ []) l p d full v)
-      (stuck-restock k (q .page) a)
+      (halt-restock k (q .page) a)
       (λ ls₁ w r.
       let sv = r .seven in
       recast (a .run) ls₁ 4 0 u (StockedAt k l (a .page)) (Rich k l (refind k (a .page) u .page)) (λ ls′ x y. refound k l (a .page) u ls′ x y)

@@ -1,13 +1,16 @@
 -- What every record of a change of the tree keeps, going down keeps: one induction over the update, used for every property of runs.
 use Prim.Native.Nat.{ℕ, zero, suc}
+use mathlib.Core.Path.{_≡_}
 use mathlib.Core.Logic.{_≢_}
 use mathlib.Core.Option.{Option, none, some}
-use mathlib.Core.Bool.{Bool, true, false}
+use mathlib.Core.Bool.{Bool, true, false, _&&_}
 use native.Mathlib.Omega.{arith}
-use Rattle.def_base.specs.Tests.{neq-false}
+use lib.Dec.{ltb, eqb}
+use Rattle.def_base.specs.Tests.{Case, yes!, no!, case, true-eq, and-true, neq-false}
 use Rattle.def_layout.specs.declared.Entry.{Entry}
 use Rattle.def_layout.specs.Records.{Kind, split, link, unlink, merge, redistribute, raise, lower, Rec}
-use Rattle.def_model.specs.Update.{Run, stopped, emit-by, emit, taking-by, emit-taking, split-page, room-by, make-room, link-child, Pair, linked-by, direct-by, direct-for, direct, raise-by, raise-root, descend-add, find-add, join-by, join, link-after-by, link-after, unlink-join, join-left, join-by-entry, restock, refind, stocked-by, stocked, lower-root, lone, step-by, descend-remove}
+use Rattle.def_model.specs.TreeRules.{free-pages}
+use Rattle.def_model.specs.Update.{Run, going, stopped, emit-by, emit, fresh, taking-by, emit-taking, split-page, room-by, make-room, link-child, Pair, linked-by, direct-by, direct-for, direct, raise-by, raise-root, descend-add, find-add, join-by, join, link-after-by, link-after, unlink-join, join-left, join-by-entry, restock, refind, stocked-by, stocked, lower-root, lone, step-by, descend-remove}
 
 -- The kinds that change the tree and belong to no batch: 01's 9 to 15.
 pub data Structural : Kind → Type 0 where
@@ -19,15 +22,20 @@ pub data Structural : Kind → Type 0 where
   raising : Structural raise
   lowering : Structural lower
 
-module _ (I : Run → Type 0) (by-emit : (r : Rec) → Structural (r .kind) → (s : Run) → I s → I (emit r s)) (by-stop : (s : Run) → I s → I (stopped 18 s)) where
-  pub keep-taking-by : (b : Bool) (r : Rec) → Structural (r .kind) → (s : Run) → I s → I (taking-by b r s)
-  unfolding taking-by
-  keep-taking-by true r q s i = by-stop s i
-  keep-taking-by false r q s i = by-emit r q s i
+module _ (I : Run → Type 0) (by-emit : (r : Rec) → Structural (r .kind) → (s : Run) → I s → I (emit r s)) (by-stop : (s : Run) → s .stop ≡ 0 → I s → I (stopped 18 s)) where
+  pub keep-taking : (f : ℕ → Rec) → ((b : ℕ) → Structural (f b .kind)) → (near : ℕ) (s : Run) → I s → I (emit-taking f near s)
+  unfolding emit-taking taking-by
+  keep-taking f q near s i = go (case (going s && ltb 0 (s .room) && eqb (fresh (s .pages) near) 0))
+    where
+      go : Case (going s && ltb 0 (s .room) && eqb (fresh (s .pages) near) 0) → I (taking-by (going s && ltb 0 (s .room) && eqb (fresh (s .pages) near) 0) (f (fresh (s .pages) near)) s)
+      go (yes! e) =
+          let x = and-true (going s && ltb 0 (s .room)) _ e in
+          rw e (by-stop s (true-eq _ _ (and-true (going s) _ (x .0) .0)) i)
+      go (no! e) = rw e (by-emit _ (q _) s i)
 
   pub keep-split : (p : ℕ) (s : Run) → I s → I (split-page p s)
-  unfolding split-page emit-taking
-  keep-split p s i = keep-taking-by _ _ splitting s i
+  unfolding split-page
+  keep-split p s i = keep-taking _ (λ b. splitting) _ s i
 
   pub keep-room-by : (b : Bool) (k p : ℕ) (s : Run) → I s → I (room-by b k p s .run)
   unfolding room-by
@@ -57,9 +65,9 @@ module _ (I : Run → Type 0) (by-emit : (r : Rec) → Structural (r .kind) → 
   keep-descend-add (suc l) k p s i = keep-descend-add l k (direct k p s .child) (direct k p s .run) (keep-direct k p s i)
 
   pub keep-raise-by : (b : Bool) (s : Run) → I s → I (raise-by b s)
-  unfolding raise-by emit-taking
+  unfolding raise-by
   keep-raise-by true s i = i
-  keep-raise-by false s i = keep-taking-by _ _ raising s i
+  keep-raise-by false s i = keep-taking _ (λ b. raising) _ s i
 
   pub keep-raise : (s : Run) → I s → I (raise-root s)
   unfolding raise-root
@@ -124,5 +132,28 @@ stuck-emit r s n = rw (neq-false n) n
 pub stuck-by : (r : Rec) → Structural (r .kind) → (s : Run) → Stuck s → Stuck (emit r s)
 stuck-by r q s n = stuck-emit r s n
 
-pub stuck-stop : (s : Run) → Stuck s → Stuck (stopped 18 s)
-stuck-stop s n e = absurd (omega (arith, e))
+pub stuck-stop : (s : Run) → s .stop ≡ 0 → Stuck s → Stuck (stopped 18 s)
+stuck-stop s z n = absurd (n z)
+
+-- ---- and for the reason that it had
+
+-- A run that is short of a page (18) has no free page.
+abbrev pub Full : Run → Type 0
+Full s = s .stop ≡ 18 → free-pages (s .pages) ≡ 0
+
+pub record Halt (s : Run) : Type 0 where
+  pub stuck : Stuck s
+  pub full : Full s
+
+pub halt-short : (s : Run) → Halt (stopped 17 s)
+halt-short s = record { stuck = λ e. absurd (omega (arith, e)); full = λ e. absurd (omega (arith, e)) }
+
+pub halt-emit : (r : Rec) (s : Run) → Halt s → Halt (emit r s)
+unfolding emit emit-by
+halt-emit r s h = rw (neq-false (h .stuck)) h
+
+pub halt-by : (r : Rec) → Structural (r .kind) → (s : Run) → Halt s → Halt (emit r s)
+halt-by r q s h = halt-emit r s h
+
+pub halt-stop : (s : Run) → s .stop ≡ 0 → Halt s → Halt (stopped 18 s)
+halt-stop s z h = absurd (h .stuck z)

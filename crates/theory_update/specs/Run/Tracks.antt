@@ -36,8 +36,8 @@ module _ (base : ℕ → Page) (zero-numbers : (p : ℕ) → base p .lsn ≡ 0) 
   unfolding emit
   tracks-emit r s t = tracks-by (going s) (ltb 0 (s .room)) r s t
 
-  pub tracks-stop : (s : Run) → Tracks base s → Tracks base (stopped 18 s)
-  tracks-stop s t = record { due = t .due; current = t .current }
+  pub tracks-stop : (s : Run) → s .stop ≡ 0 → Tracks base s → Tracks base (stopped 18 s)
+  tracks-stop s z t = record { due = t .due; current = t .current }
 
   tracks-structural : (r : Rec) → Structural (r .kind) → (s : Run) → Tracks base s → Tracks base (emit r s)
   tracks-structural r q s t = tracks-emit r s t

@@ -1,7 +1,7 @@
 -- A run of lawful steps: what it kept, what it used, or why it stopped.
 use Prim.Native.Nat.{ℕ, zero, suc, _+_, _-_, _≤_, _<_}
 use mathlib.Core.Path.{_≡_, refl, sym, _∙_, subst}
-use mathlib.Core.Logic.{_≢_, _⊎_, inl, inr}
+use mathlib.Core.Logic.{_⊎_, inl, inr}
 use mathlib.Core.Bool.{Bool, true, false, _&&_}
 use mathlib.Core.List.{List, [], _∷_, _++_}
 use native.Mathlib.Omega.{arith}
@@ -21,6 +21,7 @@ use Rattle.theory_tree.specs.Shape.Rules.{Rules}
 use Rattle.theory_tree.specs.Step.Steps.{Step}
 use Rattle.theory_tree.specs.Step.Parts.{Lows}
 use Rattle.theory_tree.specs.Step.Rules.{step-rules}
+use Rattle.theory_update.specs.Run.Keeps.{Halt, halt-short}
 
 -- A run with one record more, logged and applied.
 abbrev pub written-by : Rec → Run → Run
@@ -74,7 +75,7 @@ pub record Went (s : Run) (ls : List (List Node)) (a b : ℕ) (t : Run) (ls′ :
 -- It went so, and then P holds of the levels; or it halted, for want of room or pages.
 pub data Result (s : Run) (ls : List (List Node)) (a b : ℕ) (t : Run) (P : List (List Node) → Type 0) : Type 0 where
   went : (ls′ : List (List Node)) → Went s ls a b t ls′ → P ls′ → Result s ls a b t P
-  halted : t .stop ≢ 0 → (s .room < a) ⊎ (length (s .pages) < counted ls + b) → Result s ls a b t P
+  halted : Halt t → (s .room < a) ⊎ (length (s .pages) < counted ls + b) → Result s ls a b t P
 
 pub idle : (s : Run) (ls : List (List Node)) (P : List (List Node) → Type 0) → Live s ls → P ls → Result s ls 0 0 s P
 idle s ls P v p = went ls (record { way = stay; live = v; same = refl; records = omega arith; taken = omega arith; room = refl; size = refl }) p
@@ -89,7 +90,7 @@ loosen s ls a b a′ b′ t P l m (halted h (inr z)) = halted h (inr (omega arit
 
 -- One part after another.
 pub bind : (s : Run) (ls : List (List Node)) (a b : ℕ) (t : Run) (P : List (List Node) → Type 0) (a′ b′ : ℕ) (u : Run) (Q : List (List Node) → Type 0)
-    → Result s ls a b t P → (t .stop ≢ 0 → u .stop ≢ 0) → ((ls₁ : List (List Node)) → Live t ls₁ → P ls₁ → Result t ls₁ a′ b′ u Q)
+    → Result s ls a b t P → (Halt t → Halt u) → ((ls₁ : List (List Node)) → Live t ls₁ → P ls₁ → Result t ls₁ a′ b′ u Q)
     → Result s ls (a + a′) (b + b′) u Q
 bind s ls a b t P a′ b′ u Q (halted h (inl z)) k f = halted (k h) (inl (omega arith))
 bind s ls a b t P a′ b′ u Q (halted h (inr z)) k f = halted (k h) (inr (omega arith))
@@ -132,7 +133,7 @@ emitted r s ls ls′ b P v k e c p = go (case (ltb 0 (s .room)))
         (went ls′ (record { way = more stay k; live = live-more r s ls ls′ v k; same = e; records = omega arith; taken = c; room = omega arith; size = length-redo-record (s .due) r (s .pages) }) q)
     go (no! l) =
         let g = false-lt 0 (s .room) l in
-        subst (λ z. Result s ls 1 b z P) (sym (emit-stops r s (v .goes) l)) (halted (λ z. absurd (omega (arith, z))) (inl (omega arith)))
+        subst (λ z. Result s ls 1 b z P) (sym (emit-stops r s (v .goes) l)) (halted (halt-short s) (inl (omega arith)))
 
 -- ---- a record that takes a page
 
@@ -161,12 +162,12 @@ took f near s ls P v k = go (case (ltb 0 (s .room))) (case (eqb (fresh (s .pages
     go (no! l) c =
         let g = false-lt 0 (s .room) l in
         let e : emit-taking f near s ≡ stopped 17 s = rw (z, l) (emit-stops (f (fresh (s .pages) near)) s (v .goes) l) in
-        subst (λ z. Result s ls 1 1 z P) (sym e) (halted (λ z. absurd (omega (arith, z))) (inl (omega arith)))
+        subst (λ z. Result s ls 1 1 z P) (sym e) (halted (halt-short s) (inl (omega arith)))
     go (yes! l) (yes! c) =
         let e : emit-taking f near s ≡ stopped 18 s = rw (z, l, c) in
         let a = all-used (length (s .pages)) (at (s .pages) 0 .marks) (true-eq _ _ c) (v .rules .mapped .wide) (v .rules .mapped .itself) in
         let d = v .rules .mapped .count in
-        subst (λ z. Result s ls 1 1 z P) (sym e) (halted (λ z. absurd (omega (arith, z))) (inr (omega arith)))
+        subst (λ z. Result s ls 1 1 z P) (sym e) (halted (record { stuck = λ z. absurd (omega (arith, z)); full = λ z. omega arith }) (inr (omega arith)))
     go (yes! l) (no! c) =
         let pos : 0 < fresh (s .pages) near = positive (fresh (s .pages) near) c in
         let e : emit-taking f near s ≡ emit (f (fresh (s .pages) near)) s = rw (z, l, c) in

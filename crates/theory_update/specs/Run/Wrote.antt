@@ -42,8 +42,8 @@ since-emit : (log : List Rec) (r : Rec) → Structural (r .kind) → (s : Run) �
 unfolding emit
 since-emit log r q s i = since-by log (going s) (ltb 0 (s .room)) r q s i
 
-since-stop : (log : List Rec) (s : Run) → Since log s → Since log (stopped 18 s)
-since-stop log s i = record { body = i .body; written = i .written; structural = i .structural }
+since-stop : (log : List Rec) (s : Run) → s .stop ≡ 0 → Since log s → Since log (stopped 18 s)
+since-stop log s z i = record { body = i .body; written = i .written; structural = i .structural }
 
 since-start : (s : Run) → Since (s .log) s
 unfolding AllStructural

@@ -44,7 +44,7 @@ pub fn forged_around_changes() -> Tried {
 }
 
 /// Try each change on each of its pages.
-fn around_changes(tries: fn(&mut Alone) -> Result<(), Difference>) -> Tried {
+pub(super) fn around_changes(tries: fn(&mut Alone) -> Result<(), Difference>) -> Tried {
     let mut beside = Beside::new();
     for records in logs() {
         let changed: Vec<usize> = page_changes(&records[records.len() - 1]).iter().map(|change| change.1).collect();
@@ -116,12 +116,12 @@ fn some_key(random: &mut Random, case: usize, update: usize) -> u32 {
 }
 
 /// A change to be redone and no other.
-struct Alone {
+pub(super) struct Alone {
     beside: Beside,
     records: Vec<Record>,
     /// The pages that lack the last record, and the first of them as it was without it.
-    lacking: Vec<usize>,
-    before: Page,
+    pub(super) lacking: Vec<usize>,
+    pub(super) before: Page,
     areas: Areas,
 }
 
@@ -142,7 +142,7 @@ impl Alone {
         Alone { beside, records: records.to_vec(), lacking: lacking.to_vec(), before, areas }
     }
 
-    fn last(&self) -> &Record {
+    pub(super) fn last(&self) -> &Record {
         &self.records[self.records.len() - 1]
     }
 
@@ -152,6 +152,15 @@ impl Alone {
 
     fn restart(&mut self, what: impl Display) -> Result<(), Difference> {
         restart(&mut self.beside, &self.areas, what).map(drop)
+    }
+
+    /// The same with another last record, and with another page for the first that lacks it. The map stays.
+    pub(super) fn restart_with(&mut self, record: &Record, page: &Page, what: impl Display) -> Result<(), Difference> {
+        put(&mut self.areas.stable_log, SLOT_BYTES, self.records.len() - 1, &record.bytes());
+        if self.lacking[0] != MAP {
+            put(&mut self.areas.stable_pages, PAGE_BYTES, self.lacking[0], &page.bytes());
+        }
+        self.restart(what)
     }
 
     /// Turn each bit of the last record, and each bit of a page that alone lacks it.
@@ -185,12 +194,10 @@ impl Alone {
             if random.once_in(8) {
                 same_level(&mut random, &mut record, &mut page);
             }
-            put(&mut self.areas.stable_log, SLOT_BYTES, self.records.len() - 1, &record.bytes());
             if self.lacking[0] != MAP {
                 (0..random.below(3)).for_each(|_| forge_page(&mut random, &mut page));
-                put(&mut self.areas.stable_pages, PAGE_BYTES, self.lacking[0], &page.bytes());
             }
-            self.restart(format!("forged, turn {turn}"))?;
+            self.restart_with(&record, &page, format!("forged, turn {turn}"))?;
         }
         Ok(())
     }

@@ -5,9 +5,10 @@ use super::Tried;
 use crate::beside::Beside;
 use crate::difference::{Difference, AREAS};
 use crate::library;
-use crate::loan::{Loan, UNWRITTEN};
+use crate::loan::{Loan, UNWRITTEN, VALUES_BYTES};
 use reference::calls::Call;
-use reference::sizes::{FEWEST_PAGES, FEWEST_SLOTS, MOST_PAGES, MOST_SLOTS};
+use reference::sizes::{DESK_BYTES, FEWEST_PAGES, FEWEST_SLOTS, MOST_PAGES, MOST_SLOTS};
+use std::array::from_fn;
 
 /// Every call, with numbers for which the register does it.
 fn every_call(busy: &Busy) -> Vec<Call> {
@@ -43,7 +44,7 @@ pub fn lengths_of_areas() -> Tried {
     Ok(beside.tally)
 }
 
-/// A desk of other than 136 bytes, or values of other than 8: 1, and nothing at all is changed.
+/// A desk of other than 136 bytes, or values of other than 8: 1, and the other of the two is left as by any refusal.
 pub fn lengths_of_desk_and_values() -> Tried {
     const LENGTHS: [(usize, usize); 10] =
         [(0, 8), (1, 8), (135, 8), (137, 8), (272, 8), (136, 0), (136, 7), (136, 9), (136, 16), (0, 0)];
@@ -57,26 +58,36 @@ pub fn lengths_of_desk_and_values() -> Tried {
             beside.loan.desk.set(&bytes);
             beside.loan.values.set(&vec![UNWRITTEN; values]);
             let what = || format!("{made:?} with a desk of {desk} bytes and values of {values}");
-            changes_nothing(&mut beside, made).map_err(|difference| difference.at(what()))?;
+            changes_what_it_may(&mut beside, made).map_err(|difference| difference.at(what()))?;
         }
     }
     Ok(beside.tally)
 }
 
-/// The call answers 1 and leaves every byte. The model has no such lengths: its desk is a value, and so is its answer.
-fn changes_nothing(beside: &mut Beside, made: Call) -> Result<(), Difference> {
-    let before = everything(&beside.loan);
+/// The call answers 1 and leaves every byte, but that values of 8 bytes are zeros, and so is a desk of 136 bytes after format and restart.
+/// The model has no such lengths: its desk is a value, and so is its answer.
+fn changes_what_it_may(beside: &mut Beside, made: Call) -> Result<(), Difference> {
+    let mut expected = contents(&beside.loan);
+    let [.., desk, values] = &mut expected;
+    if desk.len() == DESK_BYTES && matches!(made, Call::Format | Call::Restart) {
+        desk.fill(0);
+    }
+    if values.len() == VALUES_BYTES {
+        values.fill(0);
+    }
     let (reason, stack) = library::call(&mut beside.loan, made);
     beside.tally.count(made, reason, stack);
     if reason != 1 {
         return Err(Difference::new(format!("{reason} by the library, and not 1")));
     }
-    if everything(&beside.loan) != before || !beside.loan.guards_hold() {
-        return Err(Difference::new("the library changes something"));
+    if contents(&beside.loan) != expected || !beside.loan.guards_hold() {
+        return Err(Difference::new("the library changes something that it may not, or not what it must"));
     }
     Ok(())
 }
 
-fn everything(loan: &Loan) -> Vec<u8> {
-    loan.areas.iter().chain([&loan.desk, &loan.values]).flat_map(|lent| lent.iter().copied()).collect()
+/// What stands in the four areas, the desk and the values.
+fn contents(loan: &Loan) -> [Vec<u8>; 6] {
+    let mut lent = loan.areas.iter().chain([&loan.desk, &loan.values]);
+    from_fn(|_| lent.next().map(|lent| lent.to_vec()).unwrap_or_default())
 }

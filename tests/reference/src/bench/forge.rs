@@ -98,6 +98,15 @@ fn forge_entry(random: &mut Random, entries: &mut [Entry]) {
     }
 }
 
+/// Swap some of the entries, or none.
+pub fn permute(random: &mut Random, entries: &mut [Entry]) {
+    let swaps = if entries.is_empty() { 0 } else { random.below(4) };
+    for _ in 0..swaps {
+        let (one, other) = (random.below(entries.len()), random.below(entries.len()));
+        entries.swap(one, other);
+    }
+}
+
 /// Change what a page is or holds, in a way that the layout mostly allows. The map stays.
 pub fn forge_page(random: &mut Random, page: &mut Page) {
     match random.below(8) {
@@ -122,12 +131,17 @@ fn forge_pages(random: &mut Random, pages: &mut Pages) {
         return;
     };
     let page = &mut pages.list[place];
-    match random.below(8) {
+    match random.below(9) {
         0..=2 => page.log = random.below(page.log as usize + 2) as u32,
         3 if page.is_leaf() => forge_entry(random, &mut page.entries),
         4 if place > ROOT => *page = Page::free(place, page.log),
         5 if place >= ROOT => page.right = random.below(1024),
         6 if place >= ROOT => page.high = page.high.wrapping_sub(1),
+        // Out of order, and without its last changes, which then are redone there.
+        7 => {
+            permute(random, &mut page.entries);
+            page.log -= random.below(page.log.min(20) as usize + 1) as u32;
+        }
         _ => pages.map.take(random.below(pages.count())),
     }
 }

@@ -70,23 +70,25 @@ fn starts_from_b(page: &Page, record: &Record) -> Judged {
         }
         _ => {
             asks(in_tree(page), "it is neither a leaf nor an index page")?;
-            takes(page, record)
+            takes(page, record)?;
+            asks(rise(&record.entries, &page.entries), "its first key is not above the last that the record moves")
         }
     }
 }
 
+/// The key stands nowhere, also not where the search would pass it by because the entries are out of order.
 fn adds(page: &Page, record: &Record) -> Judged {
     asks(page.is_leaf(), "it is no leaf")?;
     asks(has_room(page, 1), "it is full")?;
-    asks(!has_key(page, record.key), "it has the key already")
+    asks(page.entries.iter().all(|entry| entry.key != record.key), "it has the key already")
 }
 
-/// A delete knows the value too, an undo-insert only the key.
+/// The search meets the key. A delete knows the value too, an undo-insert only the key.
 fn removes(page: &Page, record: &Record) -> Judged {
     asks(page.is_leaf(), "it is no leaf")?;
-    asks(has_key(page, record.key), "it does not have the key")?;
-    let same =
-        record.kind == Kind::UndoInsert || entry_at(page, record.key).map(|entry| entry.value) == Some(record.second);
+    let met = page.entries.get(entry_place(&page.entries, record.key)).filter(|entry| entry.key == record.key);
+    asks(met.is_some(), "it does not have the key")?;
+    let same = record.kind == Kind::UndoInsert || met.map(|entry| entry.value) == Some(record.second);
     asks(same, "it has the key with another value")
 }
 
@@ -121,12 +123,10 @@ fn unlinks(page: &Page, record: &Record) -> Judged {
 }
 
 fn merges(page: &Page, record: &Record) -> Judged {
-    let first = record.entries.first().map_or(0, |entry| entry.key);
     asks(in_tree(page), "it is neither a leaf nor an index page")?;
     takes(page, record)?;
     asks(page.right == record.b, "its right link is not the page that is freed")?;
-    let in_order = page.entries.last().is_none_or(|last| last.key < first);
-    asks(in_order, "its last key is not below the first that the merge moves")
+    takes_at_its_end(page, record)
 }
 
 fn redistributes_a(page: &Page, record: &Record) -> Judged {
@@ -134,6 +134,7 @@ fn redistributes_a(page: &Page, record: &Record) -> Judged {
     asks(page.right == record.b, "its right link is not B")?;
     let last_afterwards = if moves_into_a(record) {
         takes(page, record)?;
+        takes_at_its_end(page, record)?;
         record.entries.last().or(page.entries.last())
     } else {
         page.entries.strip_suffix(record.entries.as_slice()).and_then(<[Entry]>::last)
@@ -182,10 +183,11 @@ fn takes(page: &Page, record: &Record) -> Judged {
     asks(fit, "it is an index page, and a moved entry has more than a child's ten bits")
 }
 
-fn entry_at(page: &Page, key: u32) -> Option<Entry> {
-    page.entries.get(entry_place(&page.entries, key)).copied()
+fn takes_at_its_end(page: &Page, record: &Record) -> Judged {
+    asks(rise(&page.entries, &record.entries), "its last key is not below the first that the record moves")
 }
 
-fn has_key(page: &Page, key: u32) -> bool {
-    entry_at(page, key).is_some_and(|entry| entry.key == key)
+/// Whether the keys rise from the left entries to the right ones. Where either are none, there is nothing to ask.
+fn rise(left: &[Entry], right: &[Entry]) -> bool {
+    left.last().zip(right.first()).is_none_or(|(last, first)| last.key < first.key)
 }

@@ -1,0 +1,1 @@
+// The calls as C makes them, and demand 3 over them: see specs/.

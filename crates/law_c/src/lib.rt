@@ -1,0 +1,1 @@
+// What C functions leave where they refuse a length: see specs/.

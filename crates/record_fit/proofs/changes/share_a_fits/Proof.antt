@@ -1,0 +1,41 @@
+-- `share_a_fits`: by the side that the entries go to.
+use borrow.Author.Needs.{needs}
+use Rattle.record_fit.proofs.changes.share_a_fits.Statement.{statement}
+use Rattle.record_fit.proofs.changes.share_a_fits.Tie as tie
+use mathlib.Core.Path.{sym, _∙_}
+use Rattle.record_fit.specs.Tests.{both-of}
+use Rattle.record_fit.specs.Shares.{share-in-row, share-out-row}
+
+returns : tie.Need-returns
+returns c =
+    let a = c .before .before .before .before .before .before .before .before .before .before .before .before .args in
+    both-of (c .both3 .ensures) (c .before .before .before .before .before .before .has-room .ensures)
+    (both-of (c .before .both2 .ensures) (c .before .before .before .before .before .last-joined .ensures)
+    (both-of (c .before .before .both .ensures) (c .before .before .before .before .in-order .ensures) (c .before .before .before .children-in .ensures)))
+    ∙ sym (share-in-row (a .r) (a .x) (a .n) (c .before .before .before .before .before .before .before .before .before .before .before .before .pre .0) (sym (c .before .before .before .before .before .before .before .before .into-a .ensures) ∙ c .before .before .before .before .before .before .before .if1 .taken))
+
+returns-2 : tie.Need-returns-2
+returns-2 c =
+    let a = c .before .before .before .before .before .before .before .before .before .args in
+    both-of (c .both4 .ensures) (c .before .before .ends-with .ensures) (c .before .last-key-is .ensures)
+    ∙ sym (share-out-row (a .r) (a .x) (a .n) (c .before .before .before .before .before .before .before .before .before .pre .0) (c .before .before .before .less .result) (c .before .before .before .less .ensures) (sym (c .before .before .before .before .before .into-a .ensures) ∙ c .before .before .before .before .if1 .left))
+
+pub share-a-fits-spec : {M : Type 1} → statement M
+share-a-fits-spec =
+    tie.close
+    (tie.spec
+    (λ c. search needs)
+    (λ c κs. search needs)
+    (λ c κs. search needs)
+    (λ c κs. search needs)
+    (λ c κs. search needs)
+    (λ c κs. search needs)
+    (λ c κs. search needs)
+    (λ c κs. search needs)
+    (λ c κs. search needs)
+    returns
+    (λ c κs. search needs)
+    (λ c κs. search needs)
+    (λ c κs. search needs)
+    (λ c κs. search needs)
+    returns-2)

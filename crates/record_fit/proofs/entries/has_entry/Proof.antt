@@ -1,0 +1,27 @@
+-- `has_entry`: no key not below k, another key at its place, or k with its value.
+use borrow.Author.Needs.{needs}
+use Rattle.record_fit.proofs.entries.has_entry.Statement.{statement}
+use Rattle.record_fit.proofs.entries.has_entry.Tie as tie
+use Rattle.record_fit.specs.Tests.{value-past, value-other, value-here}
+
+returns : tie.Need-returns
+returns c = let a = c .before .before .args in value-past (a .n) (a .t1) (a .k) (a .v) _ (c .before .find .ensures .0) (c .if1 .taken)
+
+returns-2 : tie.Need-returns-2
+returns-2 c = let a = c .before .before .before .args in value-other (a .n) (a .t1) (a .k) (a .v) _ (c .before .before .find .ensures .0) (c .before .if1 .left) (c .if2 .taken)
+
+returns-3 : tie.Need-returns-3
+returns-3 c = let a = c .before .before .before .args in value-here (a .n) (a .t1) (a .k) (a .v) _ (c .before .before .find .ensures .0) (c .before .if1 .left) (c .if2 .left)
+
+pub has-entry-spec : {M : Type 1} → statement M
+has-entry-spec =
+    tie.close
+    (tie.spec
+    (λ c κs. search needs)
+    returns
+    (λ c. search needs)
+    (λ c. search needs)
+    returns-2
+    (λ c. search needs)
+    (λ c. search needs)
+    returns-3)

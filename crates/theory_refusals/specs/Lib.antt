@@ -1,0 +1,6 @@
+pub mod Rows
+pub mod Numbers
+pub mod Order
+pub mod Left
+pub mod Lossless
+pub mod OnBytes

@@ -1,0 +1,132 @@
+-- What a call leaves on bytes is read as what it leaves on the typed areas: its working areas, and each of its stores.
+use Prim.Native.Nat.{ℕ, _*_, _≤_}
+use mathlib.Core.Path.{_≡_, refl, sym, ap, _∙_, subst, subst₂}
+use mathlib.Core.Logic.{_⊎_, inl, inr}
+use mathlib.Core.Bool.{false}
+use mathlib.Core.List.{List, [], _∷_, map}
+use native.Mathlib.Omega.{arith}
+use lib.ListN.{length, length-append, length-replicate}
+use Rattle.def_base.specs.Tests.{Case, yes!, no!, case}
+use Rattle.def_layout.specs.Pages.{Page, at}
+use Rattle.def_layout.specs.PageBytes.{page}
+use Rattle.def_layout.specs.Sizes.{page-size, slot-size}
+use Rattle.def_layout.specs.Records.{Rec}
+use Rattle.def_model.specs.Log.{log-area}
+use Rattle.def_model.specs.Areas.{Side, Store, store-page, log-stores, zero-side}
+use Rattle.def_model.specs.Answers.{Outcome, passed}
+use Rattle.def_model.specs.Update.{Run}
+use Rattle.def_model.specs.Calls.{run-side}
+use Rattle.def_model.specs.OnBytes.{Call, Lent, read-areas, read-pages, read-log, pages-bytes, log-bytes}
+use Rattle.def_recovery.specs.Events.{World, Granted}
+use Rattle.law_bytes.specs.Pieces.{All}
+use Rattle.law_areas.specs.Lengths.{Lengths, lengths-enough}
+use Rattle.law_areas.specs.Pages.{AllPagesFit, filled-whole, pages-hold, pages-length, pages-read, zero-pages-bytes, zero-pages-read, read-pages-length}
+use Rattle.law_areas.specs.Logs.{AllFit, area-holds, area-bytes-length, log-read, empty-bytes, empty-log-read, read-log-length}
+use Rattle.theory_history.specs.Start.{length-after}
+use Rattle.theory_ranges.specs.Histories.{ranged-standing}
+use Rattle.theory_calls.specs.Passing.{Stored, nothing, the-log, log-and-page, Follows, quietly, by-commit}
+use Rattle.theory_recovery.specs.Invariant.{Inv}
+use Rattle.theory_refusals.specs.Lossless.{pages-lossless, log-lossless}
+use Rattle.theory_recovery.specs.Passed.{ranged-run}
+use Rattle.theory_recovery.specs.Going.{does, Going}
+use Rattle.theory_recovery.specs.Steps.{goes}
+use Rattle.theory_sessions.specs.Unpassed.{zeroed-side, refused-work, refused-stores}
+use Rattle.theory_sessions.specs.StoresRead.{StoreFits, fits-append, log-fits}
+
+-- A working side that is read back from its bytes, of n pages and m slots.
+pub record SideRead (n m : ℕ) (s : Side) : Type 0 where
+  pub pages-length : length (pages-bytes (s .pages)) ≡ page-size * n
+  pub log-length : length (log-bytes (s .log)) ≡ slot-size * m
+  pub pages : read-pages (pages-bytes (s .pages)) ≡ s .pages
+  pub log : read-log (log-bytes (s .log)) ≡ s .log
+
+-- And every store fits.
+pub record LeavesRead (n m : ℕ) (o : Outcome) : Type 0 where
+  pub work : SideRead n m (o .work)
+  pub stores : All (StoreFits n m) (o .stores)
+
+-- ---- sides
+
+pub typed-side : (n m : ℕ) (xs : List Page) (log : List Rec) → length xs ≡ n → length log ≤ m → AllPagesFit xs → AllFit 1 log → SideRead n m (record { pages = map page xs; log = log-area m log })
+typed-side n m xs log e h f g =
+    record {
+      pages-length = pages-length xs ∙ ap (λ (k : ℕ). page-size * k) e;
+      log-length = area-bytes-length m log h;
+      pages = pages-read (length xs) xs (pages-hold xs) (pages-length xs) f ∙ ap (map page) (filled-whole (length xs) xs refl);
+      log = log-read m log (area-holds m log) (area-bytes-length m log h) g;
+    }
+
+pub zero-side-read : (n m : ℕ) → SideRead n m (zero-side n m)
+zero-side-read n m =
+    record {
+      pages-length = ap length (zero-pages-bytes n) ∙ length-replicate (page-size * n) 0;
+      log-length = ap length (empty-bytes m) ∙ length-replicate (slot-size * m) 0;
+      pages = ap read-pages (zero-pages-bytes n) ∙ zero-pages-read n;
+      log = ap read-log (empty-bytes m) ∙ empty-log-read m;
+    }
+
+-- What was read is read again.
+pub lent-side-read : (n m : ℕ) (l : Lent) → Lengths l n m → SideRead n m (read-areas l .work)
+unfolding read-areas
+lent-side-read n m l z =
+    let p = pages-lossless n (l .work-pages) (z .work-pages) in
+    let q = log-lossless m (l .work-log) (z .work-log) in
+    record { pages-length = ap length p ∙ z .work-pages; log-length = ap length q ∙ z .work-log; pages = ap read-pages p; log = ap read-log q }
+
+-- As many pages and slots are read as there are.
+module _ (n m : ℕ) (l : Lent) (z : Lengths l n m) where
+  pub pages-count : length (read-areas l .work .pages) ≡ n
+  unfolding read-areas
+  pages-count = read-pages-length n (l .work-pages) (z .work-pages)
+
+  pub log-count : length (read-areas l .work .log) ≡ m
+  unfolding read-areas
+  log-count = read-log-length m (l .work-log) (z .work-log)
+
+-- ---- a refused call
+
+module _ (w : World) (n m : ℕ) (z : Lengths (w .lent) n m) (c : Call) where
+  refused-reads : passed (does c w .answer) ≡ false → LeavesRead n m (does c w)
+  unfolding All
+  refused-reads p = record { work = go (refused-work c (read-areas (w .lent)) (w .desk) p); stores = subst (All (StoreFits n m)) (sym (refused-stores c (read-areas (w .lent)) (w .desk) p)) tt }
+    where
+      go : (does c w .work ≡ read-areas (w .lent) .work) ⊎ (does c w .work ≡ zeroed-side (read-areas (w .lent) .work)) → SideRead n m (does c w .work)
+      go (inl e) = subst (SideRead n m) (sym e) (lent-side-read n m (w .lent) z)
+      go (inr e) = subst (SideRead n m) (sym (e ∙ (λ i. zero-side (pages-count n m (w .lent) z i) (log-count n m (w .lent) z i)))) (zero-side-read n m)
+
+-- ---- a call that passed
+
+module _ (w : World) (i : Inv w) (c : Call) (g : Going (i .origin) w (i .log) c) where
+  passed-reads : LeavesRead (g .n) (g .m) (does c w)
+  unfolding run-side All StoreFits
+  passed-reads =
+      let o = i .origin in
+      let e = g .ends in
+      let h = ranged-run o (g .n) (g .m) (w .lent) (g .lengths) (i .log) (g .sure) (g .log) (g .rest) (g .longer) (g .fixed) (g .ranged) c (does c w) e (w .book) (i .slides) (g .tells) in
+      let f = ranged-standing o (g .n) (g .sure .most) (e .run) _ (e .standing) h in
+      let count : length (e .run .pages) ≡ g .n = ap length (e .standing .pages) ∙ length-after o (g .n) (e .run .log) in
+      record {
+        work = subst (SideRead (g .n) (g .m)) (sym (e .work)) (typed-side (g .n) (g .m) (e .run .pages) (e .run .log) count (e .within) (f .pages) (f .records));
+        stores = go (e .run) (f .pages) (f .records) count (e .within) (longer (e .run) (does c w .stores) (e .follows)) (does c w .stores) (e .stored);
+      }
+    where
+      longer : (t : Run) (ts : List Store) → Follows (i .origin) (i .log) c (g .log) t ts → length (i .log) ≤ length (t .log)
+      longer t ts (quietly more k e f) = omega (arith, ap length e, length-append (g .log) more, ap length (g .longer), length-append (i .log) (g .rest))
+      longer t ts (by-commit b r x k e s) = omega (arith, ap length e, length-append (g .log) (r ∷ []), ap length (g .longer), length-append (i .log) (g .rest))
+
+      go : (t : Run) → AllPagesFit (t .pages) → AllFit 1 (t .log) → length (t .pages) ≡ g .n → length (t .log) ≤ g .m → length (i .log) ≤ length (t .log) → (ts : List Store) → Stored (g .n) (i .log) t ts → All (StoreFits (g .n) (g .m)) ts
+      go t f r e h k [] nothing = tt
+      go t f r e h k _ the-log = log-fits (g .n) (g .m) (length (i .log)) (t .log) r k h
+      go t f r e h k _ (log-and-page p q) = fits-append (g .n) (g .m) (log-stores (length (i .log)) (t .log)) (store-page p (at (t .pages) p) ∷ []) (log-fits (g .n) (g .m) (length (i .log)) (t .log) r k h) ((q, f p (omega arith)), tt)
+
+-- ANY CALL THAT IS GRANTED.
+pub call-reads : (w : World) (i : Inv w) (n m : ℕ) → Lengths (w .lent) n m → (c : Call) → Granted c w → LeavesRead n m (does c w)
+call-reads w i n m z c g = go (case (passed (does c w .answer)))
+  where
+    go : Case (passed (does c w .answer)) → LeavesRead n m (does c w)
+    go (no! p) = refused-reads w n m z c p
+    go (yes! p) =
+        let x = goes w i c g (lengths-enough (w .lent) n m z) p in
+        let a : x .n ≡ n = omega (arith, x .lengths .work-pages, z .work-pages) in
+        let b : x .m ≡ m = omega (arith, x .lengths .work-log, z .work-log) in
+        subst₂ (λ (u v : ℕ). LeavesRead u v (does c w)) a b (passed-reads w i c x)

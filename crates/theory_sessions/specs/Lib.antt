@@ -1,0 +1,11 @@
+pub mod StoresRead
+pub mod Unpassed
+pub mod Leaving
+pub mod Tie
+pub mod Starting
+pub mod Playing
+pub mod Growing
+pub mod Claim
+pub mod Witness
+pub mod Needed
+pub mod OutOfOrder

@@ -1,0 +1,153 @@
+-- A session on bytes goes as it goes on typed areas.
+use Prim.Native.Nat.{ℕ}
+use mathlib.Core.Path.{_≡_, refl, sym, ap, _∙_, subst}
+use mathlib.Core.Logic.{_⊎_, inl, inr}
+use mathlib.Core.Bool.{Bool, true, false, not, _&&_}
+use mathlib.Core.List.{List, [], _∷_, _++_, append-assoc, append-nil}
+use lib.ListN.{length, length-replicate}
+use Rattle.def_base.specs.Tests.{every, clash, Case, yes!, no!, case, and-true}
+use Rattle.def_layout.specs.declared.Desk.{Desk}
+use Rattle.def_layout.specs.Desks.{empty-desk}
+use Rattle.def_layout.specs.PageBytes.{page}
+use Rattle.def_layout.specs.Pages.{zero-page}
+use Rattle.def_layout.specs.RecordBytes.{empty}
+use Rattle.def_model.specs.Areas.{Areas, zero-side, store-some}
+use Rattle.def_model.specs.Answers.{answer-numbers}
+use Rattle.def_model.specs.OnBytes.{Call, format, begin, restart, fetch, next, insert, delete, commit, abort, write-out, outcome, read-areas}
+use Rattle.def_recovery.specs.Events
+use Rattle.def_recovery.specs.Events.{World, Rubble, Granted, Allowed, AllAllowed, happen, happen-all, is-format, is-restart, of-32-bits, end-call, cut-call}
+use Rattle.def_sessions.specs.Play.{Step, ask, cut, forge-page, forge-slot, Machine, numbers, ended, cut-off, play-step, play}
+use Rattle.def_sessions.specs.OnBytes.{restart-next, Leaves, AllLeave, events, answered, all-answered}
+use Rattle.law_areas.specs.Lengths.{Lengths}
+use Rattle.theory_recovery.specs.Invariant.{Inv}
+use Rattle.theory_recovery.specs.Going.{does}
+use Rattle.theory_sessions.specs.Leaving.{pages-count, log-count}
+use Rattle.theory_sessions.specs.Tie.{Calm, Tied, Cut, calm-granted, restart-granted, restart-same, end-answer, ended-tied, cut-off as cut-shown, cut-zeroed}
+
+-- A call that a session may ask for: its numbers have 32 bits, and it is no further formatting.
+unfoldable pub askable : Call → Bool
+askable c = of-32-bits c && not (is-format c)
+
+unfoldable pub step-askable : Step → Bool
+step-askable (ask c) = askable c
+step-askable (cut j c) = askable c
+step-askable (forge-page p x) = false
+step-askable (forge-slot n x) = false
+
+-- Before these steps: all is shown; or there was a cut, and the next step is a restart.
+pub data Ready (n m : ℕ) (restarts : Bool) (w : World) (a : Areas) (d : Desk) : Type 0 where
+  whole : Tied n m w a d → Ready n m restarts w a d
+  halved : Cut n m w a → restarts ≡ true → Ready n m restarts w a d
+
+-- The only restart.
+is-it : (c : Call) → is-restart c ≡ true → c ≡ restart
+unfolding is-restart
+is-it restart e = refl
+is-it format e = clash (sym e)
+is-it begin e = clash (sym e)
+is-it (fetch a b) e = clash (sym e)
+is-it (next a b) e = clash (sym e)
+is-it (insert a b d) e = clash (sym e)
+is-it (delete a b) e = clash (sym e)
+is-it (commit a) e = clash (sym e)
+is-it (abort a) e = clash (sym e)
+is-it (write-out a) e = clash (sym e)
+
+-- What a step finds, whichever it is: the invariant, what is granted, the outcome on typed areas, and the stable areas.
+pub record Finds (n m : ℕ) (c : Call) (w : World) (a : Areas) (d : Desk) : Type 0 where
+  pub inv : Inv w
+  pub lengths : Lengths (w .lent) n m
+  pub granted : Granted c w
+  pub is : does c w ≡ outcome c a d
+  pub stable : read-areas (w .lent) .stable ≡ a .stable
+  pub pages : length (a .work .pages) ≡ n
+  pub log : length (a .work .log) ≡ m
+  pub calm : Calm n m w ⊎ (c ≡ restart)
+
+pub finds : (n m : ℕ) (c : Call) (w : World) (a : Areas) (d : Desk) → askable c ≡ true → Ready n m (is-restart c) w a d → Finds n m c w a d
+unfolding askable
+finds n m c w a d k (whole t) =
+    let (b, f) = and-true (of-32-bits c) (not (is-format c)) k in
+    record {
+      inv = t .inv;
+      lengths = t .lengths;
+      granted = calm-granted n m w (t .lengths) (t .calm) c b (not-true (is-format c) f);
+      is = λ i. outcome c (t .areas i) (t .desk i);
+      stable = ap (λ x. x .stable) (t .areas);
+      pages = sym (ap (λ x. length (x .work .pages)) (t .areas)) ∙ pages-count n m (w .lent) (t .lengths);
+      log = sym (ap (λ x. length (x .work .log)) (t .areas)) ∙ log-count n m (w .lent) (t .lengths);
+      calm = inl (t .calm);
+    }
+  where
+    not-true : (b : Bool) → not b ≡ true → b ≡ false
+    not-true false e = refl
+    not-true true e = clash (sym e)
+finds n m c w a d k (halved t e) =
+    let q = is-it c e in
+    record {
+      inv = t .inv;
+      lengths = t .lengths;
+      granted = subst (λ x. Granted x w) (sym q) (restart-granted w);
+      is = subst (λ x. does x w ≡ outcome x a d) (sym q) (restart-same (read-areas (w .lent)) a (w .desk) d (t .stable) (pages-count n m (w .lent) (t .lengths) ∙ sym (t .pages)) (log-count n m (w .lent) (t .lengths) ∙ sym (t .log)));
+      stable = t .stable;
+      pages = t .pages;
+      log = t .log;
+      calm = inr q;
+    }
+
+-- ---- one step
+
+module _ (n m : ℕ) (c : Call) (w : World) (x : Machine) (f : Finds n m c w (x .areas) (x .desk)) where
+  asked : Tied n m (end-call c w) (play-step (ask c) x .areas) (play-step (ask c) x .desk)
+  unfolding play-step ended
+  asked = ended-tied n m w (f .inv) (f .lengths) c (f .granted) (outcome c (x .areas) (x .desk)) (f .is) (x .areas .stable) (f .stable) (f .calm)
+
+  asked-answer : x .answers ++ answered (Events.ended c) w ≡ play-step (ask c) x .answers
+  unfolding play-step ended answered
+  asked-answer = ap (λ a. x .answers ++ numbers (answer-numbers a) ∷ []) (end-answer n m w (f .inv) (f .lengths) c (f .granted) ∙ ap (λ o. o .answer) (f .is))
+
+  was-cut : (j : ℕ) (left : Rubble) (restarts : Bool) → Leaves n m restarts left → Ready n m restarts (cut-call c j left w) (play-step (cut j c) x .areas) (play-step (cut j c) x .desk)
+  unfolding play-step cut-off
+  was-cut j left restarts h = go (case restarts)
+    where
+      zeroed-work : zero-side (length (x .areas .work .pages)) (length (x .areas .work .log)) ≡ zero-side n m
+      zeroed-work = λ i. zero-side (f .pages i) (f .log i)
+
+      go : Case restarts → Ready n m restarts (cut-call c j left w) (cut-off j (outcome c (x .areas) (x .desk)) x .areas) empty-desk
+      go (yes! e) =
+          halved (cut-shown n m w (f .inv) (f .lengths) c (f .granted) (outcome c (x .areas) (x .desk)) (f .is) (x .areas .stable) (f .stable) j left (h .pages-length) (h .log-length)
+          (zero-side (length (x .areas .work .pages)) (length (x .areas .work .log)))
+          (length-replicate (length (x .areas .work .pages)) (page zero-page) ∙ f .pages) (length-replicate (length (x .areas .work .log)) empty ∙ f .log)) e
+      go (no! e) =
+          let (p, q, r) = h .zeroed e in
+          whole (subst (λ s. Tied n m (cut-call c j left w) (record { work = s; stable = store-some j (outcome c (x .areas) (x .desk) .stores) (x .areas .stable) }) empty-desk) (sym zeroed-work)
+          (cut-zeroed n m w (f .inv) (f .lengths) c (f .granted) (outcome c (x .areas) (x .desk)) (f .is) (x .areas .stable) (f .stable) j left (h .pages-length) (h .log-length) p q r))
+
+-- ---- all steps
+
+pub record Played (n m : ℕ) (left : ℕ → Rubble) (ss : List Step) (w : World) (x : Machine) : Type 0 where
+  pub allowed : AllAllowed (events left ss) w
+  pub tied : Tied n m (happen-all (events left ss) w) (play ss x .areas) (play ss x .desk)
+  pub answers : x .answers ++ all-answered (events left ss) w ≡ play ss x .answers
+
+module _ (n m : ℕ) (left : ℕ → Rubble) where
+  pub plays : (ss : List Step) (w : World) (x : Machine) → every step-askable ss ≡ true → AllLeave n m ss left → Ready n m (restart-next ss) w (x .areas) (x .desk) → Played n m left ss w x
+  unfolding every step-askable AllLeave restart-next events all-answered answered AllAllowed Allowed happen happen-all play play-step cut-off
+  plays [] w x k h (whole t) = record { allowed = tt; tied = t; answers = append-nil (x .answers) }
+  plays [] w x k h (halved t e) = clash (sym e)
+  plays (ask c ∷ ss) w x k h r =
+      let (a, b) = and-true (askable c) (every step-askable ss) k in
+      let f = finds n m c w (x .areas) (x .desk) a r in
+      let t = plays ss (end-call c w) (play-step (ask c) x) b h (whole (asked n m c w x f)) in
+      record {
+        allowed = (f .granted, t .allowed);
+        tied = t .tied;
+        answers = sym (append-assoc (x .answers) (answered (Events.ended c) w) _) ∙ ap (_++ all-answered (events left ss) (end-call c w)) (asked-answer n m c w x f) ∙ t .answers;
+      }
+  plays (cut j c ∷ ss) w x k h r =
+      let (a, b) = and-true (askable c) (every step-askable ss) k in
+      let f = finds n m c w (x .areas) (x .desk) a r in
+      let t = plays ss (cut-call c j (left (length ss)) w) (play-step (cut j c) x) b (h .1) (was-cut n m c w x f j (left (length ss)) (restart-next ss) (h .0)) in
+      record { allowed = (f .granted, t .allowed); tied = t .tied; answers = t .answers }
+  plays (forge-page p y ∷ ss) w x k h r = clash (sym k)
+  plays (forge-slot q y ∷ ss) w x k h r = clash (sym k)
