@@ -6,12 +6,6 @@
 
 enum { WRITTEN = 3 };
 
-static void write_out_all(struct scene *scene)
-{
-    for (uint32_t page = 0; page < pages(scene); page++)
-        must(scene, 'W', page, 0, 0);
-}
-
 /* The stable pages as they are where every page was last written out when the log was as in `then`. */
 static void written_out_then(struct scene *scene, struct scene *then)
 {

@@ -37,6 +37,12 @@ void stage_restart(struct scene *scene)
     scene->next = (struct call){ 'R', { 0, 0, 0 } };
 }
 
+void write_out_all(struct scene *scene)
+{
+    for (uint32_t page = 0; page < pages(scene); page++)
+        must(scene, 'W', page, 0, 0);
+}
+
 uint32_t stage_pending(struct scene *scene)
 {
     uint32_t batches[OPEN], pending = 0;

@@ -28,6 +28,9 @@ void stage(struct scene *scene, char letter, enum fill fill);
 /* An open batch with one update, all its records stored, and the power about to fail: what a restart meets. */
 void stage_restart(struct scene *scene);
 
+/* Every page is written out. */
+void write_out_all(struct scene *scene);
+
 /* A fetch while eight batches are open, with as many updates pending as the reserves allow. Returns how many. */
 uint32_t stage_pending(struct scene *scene);
 
