@@ -17,3 +17,4 @@ pub mod PageBytes
 pub mod PageAreas
 pub mod RecordBytes
 pub mod LogAreas
+pub mod AreaSizes

@@ -17,14 +17,14 @@ use tree_write::emit_taking;
 use tree_write::fresh;
 ghost use mathlib.Core.Path.{_≡_};
 ghost use mathlib.Core.List.{List};
-ghost use Prim.Native.Nat.{_*_, _≤_, _<_};
-ghost use lib.ListN.{length};
+ghost use Prim.Native.Nat.{_≤_, _<_};
 ghost use lib.Dec.{leb};
-ghost use Rattle.def_layout.specs.Sizes.{page-size, slot-size, most-pages, most-slots, room};
+ghost use Rattle.def_layout.specs.Sizes.{room};
 ghost use Rattle.def_base.specs.Tests.{pick};
 ghost use Rattle.def_layout.specs.Pages as layout;
 ghost use Rattle.def_layout.specs.Records.{kind-of};
 ghost use Rattle.def_model.specs.Update as model;
+ghost use Rattle.law_bytes.specs.AreaSizes.{HasPages, HasAreas};
 ghost use Rattle.law_bytes.specs.EntryBytes.{used};
 ghost use Rattle.record_apply.specs.Lists.{listed};
 ghost use Rattle.record_apply.specs.Pages.{rec};
@@ -60,7 +60,7 @@ pub fn list_of(x: Page) -> EntryList
 
 // The half covering k, of page p and the one after it.
 pub fn half(wp: &[u8], n: usize, k: u32, p: u32) -> u32
-    requires { ⌜ (length (now wp) ≡ page-size * n) × (n ≤ most-pages) ⌝ }
+    requires { ⌜ HasPages n (now wp) ⌝ }
     ensures { λ r. ⌜ ((xs : List layout.Page) → Pages n (now (wp .entry)) xs → r ≡ pick (leb k (layout.at xs p .high)) p (layout.at xs p .right)) ⌝ }
 {
     let x = page_at(wp, n, p);
@@ -83,7 +83,7 @@ fn split_of(x: Page, p: u32, b: u32) -> Record
 }
 
 fn split_page(wp: &mut [u8], wl: &mut [u8], n: usize, m: usize, t: Run, p: u32) -> Run
-    requires { ⌜ (length (now wp) ≡ page-size * n) × (n ≤ most-pages) × (length (now wl) ≡ slot-size * m) × (m ≤ most-slots) ⌝ }
+    requires { ⌜ HasAreas n m (now wp) (now wl) ⌝ }
     ensures { λ u. ⌜ ((s : model.Run) → Shows n m (now (wp .entry)) (now (wl .entry)) t s → Shows n m (now (wp .exit)) (now (wl .exit)) u (model.split-page p s)) ⌝ }
 {
     let x = page_at(wp, n, p);
@@ -94,7 +94,7 @@ fn split_page(wp: &mut [u8], wl: &mut [u8], n: usize, m: usize, t: Run, p: u32) 
 
 // 01: "split P if it has 14 entries and go on in the half covering k".
 pub fn make_room(wp: &mut [u8], wl: &mut [u8], n: usize, m: usize, t: Run, k: u32, p: u32) -> At
-    requires { ⌜ (length (now wp) ≡ page-size * n) × (n ≤ most-pages) × (length (now wl) ≡ slot-size * m) × (m ≤ most-slots) ⌝ }
+    requires { ⌜ HasAreas n m (now wp) (now wl) ⌝ }
     ensures { λ a. ⌜ ((s : model.Run) → Shows n m (now (wp .entry)) (now (wl .entry)) t s → ShowsAt n m (now (wp .exit)) (now (wl .exit)) a (model.make-room k p s)) ⌝ }
 {
     let x = page_at(wp, n, p);
@@ -119,7 +119,7 @@ pub fn link_child(
     q: u32,
     w: u32,
 ) -> Run
-    requires { ⌜ (length (now wp) ≡ page-size * n) × (n ≤ most-pages) × (length (now wl) ≡ slot-size * m) × (m ≤ most-slots) ⌝ }
+    requires { ⌜ HasAreas n m (now wp) (now wl) ⌝ }
     ensures { λ u. ⌜ ((s : model.Run) → Shows n m (now (wp .entry)) (now (wl .entry)) t s → Shows n m (now (wp .exit)) (now (wl .exit)) u (model.link-child p q w s)) ⌝ }
 {
     let x = page_at(wp, n, q);
@@ -129,7 +129,7 @@ pub fn link_child(
 // Step 2: "At index page P, child Q has the least entry key not below k. If Q's high key is below that entry: .. link; Q becomes the half
 // covering k."
 pub fn direct(wp: &mut [u8], wl: &mut [u8], n: usize, m: usize, t: Run, k: u32, p: u32) -> Pair
-    requires { ⌜ (length (now wp) ≡ page-size * n) × (n ≤ most-pages) × (length (now wl) ≡ slot-size * m) × (m ≤ most-slots) ⌝ }
+    requires { ⌜ HasAreas n m (now wp) (now wl) ⌝ }
     ensures { λ d. ⌜ ((s : model.Run) → Shows n m (now (wp .entry)) (now (wl .entry)) t s → ShowsPair n m (now (wp .exit)) (now (wl .exit)) d (model.direct k p s)) ⌝ }
 {
     let x = page_at(wp, n, p);
@@ -153,7 +153,7 @@ pub fn direct(wp: &mut [u8], wl: &mut [u8], n: usize, m: usize, t: Run, k: u32, 
 
 // Step 1: "If the root has a right sibling: raise."
 pub fn raise_root(wp: &mut [u8], wl: &mut [u8], n: usize, m: usize, t: Run) -> Run
-    requires { ⌜ (length (now wp) ≡ page-size * n) × (n ≤ most-pages) × (length (now wl) ≡ slot-size * m) × (m ≤ most-slots) ⌝ }
+    requires { ⌜ HasAreas n m (now wp) (now wl) ⌝ }
     ensures { λ u. ⌜ ((s : model.Run) → Shows n m (now (wp .entry)) (now (wl .entry)) t s → Shows n m (now (wp .exit)) (now (wl .exit)) u (model.raise-root s)) ⌝ }
 {
     let x = page_at(wp, n, 1);
@@ -167,7 +167,7 @@ pub fn raise_root(wp: &mut [u8], wl: &mut [u8], n: usize, m: usize, t: Run) -> R
 
 // Down to the leaf that covers k, from the root.
 fn descend_add(wp: &mut [u8], wl: &mut [u8], n: usize, m: usize, t: Run, k: u32) -> At
-    requires { ⌜ (length (now wp) ≡ page-size * n) × (n ≤ most-pages) × (length (now wl) ≡ slot-size * m) × (m ≤ most-slots) ⌝ }
+    requires { ⌜ HasAreas n m (now wp) (now wl) ⌝ }
     ensures { λ a.
         ⌜ ((s : model.Run) → Shows n m (now (wp .entry)) (now (wl .entry)) t s
         → ShowsAt n m (now (wp .exit)) (now (wl .exit)) a (model.descend-add (layout.at (s .pages) 1 .level) k 1 s)) ⌝ }
@@ -187,7 +187,7 @@ fn descend_add(wp: &mut [u8], wl: &mut [u8], n: usize, m: usize, t: Run, k: u32)
 
 // The leaf to add k to. Step 4: "When adding, a full leaf is split."
 fn find_add(wp: &mut [u8], wl: &mut [u8], n: usize, m: usize, t: Run, k: u32) -> At
-    requires { ⌜ (length (now wp) ≡ page-size * n) × (n ≤ most-pages) × (length (now wl) ≡ slot-size * m) × (m ≤ most-slots) ⌝ }
+    requires { ⌜ HasAreas n m (now wp) (now wl) ⌝ }
     ensures { λ a. ⌜ ((s : model.Run) → Shows n m (now (wp .entry)) (now (wl .entry)) t s → ShowsAt n m (now (wp .exit)) (now (wl .exit)) a (model.find-add k s)) ⌝ }
 {
     let u = raise_root(wp, wl, n, m, t);
@@ -208,7 +208,7 @@ pub fn put_record(
     k: u32,
     v: u32,
 ) -> Run
-    requires { ⌜ (length (now wp) ≡ page-size * n) × (n ≤ most-pages) × (length (now wl) ≡ slot-size * m) × (m ≤ most-slots) × (kind < 9) ⌝ }
+    requires { ⌜ HasAreas n m (now wp) (now wl) × (kind < 9) ⌝ }
     ensures { λ u.
         ⌜ ((s : model.Run) → Shows n m (now (wp .entry)) (now (wl .entry)) t s
         → Shows n m (now (wp .exit)) (now (wl .exit)) u (model.put-record (kind-of kind) batch previous k v s)) ⌝ }
