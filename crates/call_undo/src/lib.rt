@@ -30,7 +30,7 @@ ghost use Rattle.log_pending.specs.Lines.{shown-line};
 ghost use Rattle.law_bytes.specs.Eights.{eight};
 ghost use Rattle.law_bytes.specs.DeskRows.{LowRows};
 ghost use Rattle.log_chain.specs.Shown.{marks-of};
-ghost use Rattle.tree_write.specs.Shows.{Shows};
+ghost use Rattle.tree_write.specs.Shows.{Shows, Does};
 ghost use Rattle.call_undo.specs.Grown.{Grown};
 ghost use Rattle.call_undo.specs.Marking.{MarksTurn, Starts, MarkedAll};
 ghost use Rattle.call_undo.specs.Ending.{EndsTurn};
@@ -101,7 +101,7 @@ pub fn undo_lines(
 // An 8 right after the batch's last record.
 fn end_batch(wp: &mut [u8], wl: &mut [u8], n: usize, m: usize, t: Run, batch: u32) -> Run
     requires { ⌜ HasAreas n m (now wp) (now wl) ⌝ }
-    ensures { λ u. ⌜ ((s : model.Run) → Shows n m (now (wp .entry)) (now (wl .entry)) t s → Shows n m (now (wp .exit)) (now (wl .exit)) u (undoing.end-batch batch s)) ⌝ }
+    ensures { λ u. ⌜ Does n m (now (wp .entry)) (now (wl .entry)) t (now (wp .exit)) (now (wl .exit)) u (undoing.end-batch batch) ⌝ }
 {
     let r: Record = batch_row(8, batch, t.logged);
     emit(wp, wl, n, m, t, r)

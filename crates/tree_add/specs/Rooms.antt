@@ -27,6 +27,13 @@ pub record ShowsPair (n m : ℕ) (wp wl : List ℕ) (a : two.Pair) (b : Pair) : 
   pub parent : a .parent ≡ b .parent
   pub child : a .child ≡ b .child
 
+-- Does, of code that comes to a page, and of code that comes to a page and its child.
+abbrev pub DoesAt : (n m : ℕ) (wp wl : List ℕ) (t : run.Run) (wp′ wl′ : List ℕ) (a : here.At) (f : Run → At) → Type 0
+DoesAt n m wp wl t wp′ wl′ a f = (s : Run) → Shows n m wp wl t s → ShowsAt n m wp′ wl′ a (f s)
+
+abbrev pub DoesPair : (n m : ℕ) (wp wl : List ℕ) (t : run.Run) (wp′ wl′ : List ℕ) (d : two.Pair) (f : Run → Pair) → Type 0
+DoesPair n m wp wl t wp′ wl′ d f = (s : Run) → Shows n m wp wl t s → ShowsPair n m wp′ wl′ d (f s)
+
 -- ---- the half covering k
 
 module _ {x : program.Page} {y : Page} (q : Reads x y) where
@@ -102,7 +109,7 @@ Down n m wp₀ wl₀ wp wl t₀ t k l₀ p₀ l p = (s : Run) → Shows n m wp�
 
 module _ {n m : ℕ} {wp₀ wl₀ wp wl : List ℕ} {t₀ t : run.Run} (k l₀ p₀ p : ℕ) where
   pub down-step : {wp′ wl′ : List ℕ} (l l′ : ℕ) (d : two.Pair) → l ≡ suc l′ → Down n m wp₀ wl₀ wp wl t₀ t k l₀ p₀ l p
-      → ((s : Run) → Shows n m wp wl t s → ShowsPair n m wp′ wl′ d (direct k p s)) → Down n m wp₀ wl₀ wp′ wl′ t₀ (d .run) k l₀ p₀ l′ (d .child)
+      → DoesPair n m wp wl t wp′ wl′ d (direct k p) → Down n m wp₀ wl₀ wp′ wl′ t₀ (d .run) k l₀ p₀ l′ (d .child)
   unfolding descend-add
   down-step l l′ d e down f s h =
       let (u, (g, q)) = down s h in

@@ -34,6 +34,10 @@ pub record Shows (n m : ℕ) (wp wl : List ℕ) (t : program.Run) (s : Run) : Ty
   pub room : s .room ≡ m - t .logged
   pub stop : s .stop ≡ t .stop
 
+-- What most contracts of code that changes the working areas say: from every run that they showed, it went on to what f makes of that run.
+abbrev pub Does : (n m : ℕ) (wp wl : List ℕ) (t : program.Run) (wp′ wl′ : List ℕ) (t′ : program.Run) (f : Run → Run) → Type 0
+Does n m wp wl t wp′ wl′ t′ f = (s : Run) → Shows n m wp wl t s → Shows n m wp′ wl′ t′ (f s)
+
 abbrev pub at-stop : program.Run → ℕ → program.Run
 at-stop t n = record { logged = t .logged; stop = n }
 
