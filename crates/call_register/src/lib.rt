@@ -23,10 +23,9 @@ use sound_register::standing_of;
 ghost use mathlib.Core.Path.{_≡_};
 ghost use mathlib.Core.Bool.{true};
 ghost use Prim.Native.Nat.{ℕ};
-ghost use lib.ListN.{length};
 ghost use Rattle.def_model.specs.OnBytes as calls;
 ghost use Rattle.area_lengths.specs.Lent.{lent};
-ghost use Rattle.call_reply.specs.Replies.{Replies};
+ghost use Rattle.call_reply.specs.Replies.{Replies, RepliesWhole};
 ghost use Rattle.call_register.specs.Entered.{Entered};
 
 // What a call finds first: that it is refused, and why; or how many pages and slots there are, and where the register stands.
@@ -232,25 +231,25 @@ pub fn format_within(
 // ---- with all their stores
 
 pub fn format(wp: &mut [u8], sp: &mut [u8], wl: &mut [u8], sl: &mut [u8], d: Desk) -> Reply
-    ensures { λ r. ⌜ Replies calls.format (lent (now (wp .entry)) (now (sp .entry)) (now (wl .entry)) (now (sl .entry))) d (length (calls.call calls.format (lent (now (wp .entry)) (now (sp .entry)) (now (wl .entry)) (now (sl .entry))) d .stores)) r (lent (now (wp .exit)) (now (sp .exit)) (now (wl .exit)) (now (sl .exit))) ⌝ }
+    ensures { λ r. ⌜ RepliesWhole calls.format (lent (now (wp .entry)) (now (sp .entry)) (now (wl .entry)) (now (sl .entry))) d r (lent (now (wp .exit)) (now (sp .exit)) (now (wl .exit)) (now (sl .exit))) ⌝ }
 {
     format_within(wp, sp, wl, sl, d, 20000)
 }
 
 pub fn commit(wp: &[u8], sp: &[u8], wl: &mut [u8], sl: &mut [u8], d: Desk, b: u32) -> Reply
-    ensures { λ r. ⌜ Replies (calls.commit b) (lent (now (wp .entry)) (now (sp .entry)) (now (wl .entry)) (now (sl .entry))) d (length (calls.call (calls.commit b) (lent (now (wp .entry)) (now (sp .entry)) (now (wl .entry)) (now (sl .entry))) d .stores)) r (lent (now (wp .entry)) (now (sp .entry)) (now (wl .exit)) (now (sl .exit))) ⌝ }
+    ensures { λ r. ⌜ RepliesWhole (calls.commit b) (lent (now (wp .entry)) (now (sp .entry)) (now (wl .entry)) (now (sl .entry))) d r (lent (now (wp .entry)) (now (sp .entry)) (now (wl .exit)) (now (sl .exit))) ⌝ }
 {
     commit_within(wp, sp, wl, sl, d, b, 20000)
 }
 
 pub fn write_out(wp: &[u8], sp: &mut [u8], wl: &[u8], sl: &mut [u8], d: Desk, p: u32) -> Reply
-    ensures { λ r. ⌜ Replies (calls.write-out p) (lent (now (wp .entry)) (now (sp .entry)) (now (wl .entry)) (now (sl .entry))) d (length (calls.call (calls.write-out p) (lent (now (wp .entry)) (now (sp .entry)) (now (wl .entry)) (now (sl .entry))) d .stores)) r (lent (now (wp .entry)) (now (sp .exit)) (now (wl .entry)) (now (sl .exit))) ⌝ }
+    ensures { λ r. ⌜ RepliesWhole (calls.write-out p) (lent (now (wp .entry)) (now (sp .entry)) (now (wl .entry)) (now (sl .entry))) d r (lent (now (wp .entry)) (now (sp .exit)) (now (wl .entry)) (now (sl .exit))) ⌝ }
 {
     write_out_within(wp, sp, wl, sl, d, p, 20000)
 }
 
 pub fn restart(wp: &mut [u8], sp: &[u8], wl: &mut [u8], sl: &mut [u8], d: Desk) -> Reply
-    ensures { λ r. ⌜ Replies calls.restart (lent (now (wp .entry)) (now (sp .entry)) (now (wl .entry)) (now (sl .entry))) d (length (calls.call calls.restart (lent (now (wp .entry)) (now (sp .entry)) (now (wl .entry)) (now (sl .entry))) d .stores)) r (lent (now (wp .exit)) (now (sp .entry)) (now (wl .exit)) (now (sl .exit))) ⌝ }
+    ensures { λ r. ⌜ RepliesWhole calls.restart (lent (now (wp .entry)) (now (sp .entry)) (now (wl .entry)) (now (sl .entry))) d r (lent (now (wp .exit)) (now (sp .entry)) (now (wl .exit)) (now (sl .exit))) ⌝ }
 {
     restart_within(wp, sp, wl, sl, d, 20000)
 }
