@@ -18,7 +18,7 @@ ghost use mathlib.Core.List.{List};
 ghost use Prim.Native.Nat.{ℕ, _≤_, _<_};
 ghost use Rattle.def_model.specs.OnBytes as calls;
 ghost use Rattle.law_bytes.specs.AreaSizes.{HasSlots, HasAreas};
-ghost use Rattle.area_lengths.specs.Lent.{lent};
+ghost use Rattle.area_lengths.specs.Lent.{lent, at-entry, at-exit};
 ghost use Rattle.call_reply.specs.Replies.{Replies};
 ghost use Rattle.call_slides.specs.Given.{Given};
 
@@ -106,7 +106,7 @@ pub fn write_out_in(
     requires { ⌜ HasAreas n m (now wp) (now wl) × HasAreas n m (now sp) (now sl) × (d .stored ≤ d .logged) × (d .logged ≤ m) × (p < n) ⌝ }
     ensures { λ r.
         ⌜ ((st : Standing) → Given n m (now (wp .entry)) (now (sp .entry)) (now (wl .entry)) (now (sl .entry)) d st
-        → Replies (calls.write-out p) (lent (now (wp .entry)) (now (sp .entry)) (now (wl .entry)) (now (sl .entry))) d budget r (lent (now (wp .entry)) (now (sp .exit)) (now (wl .entry)) (now (sl .exit)))) ⌝ }
+        → Replies (calls.write-out p) (at-entry wp sp wl sl) d budget r (at-exit wp sp wl sl)) ⌝ }
 {
     let records = Span {
         pages: false,

@@ -31,7 +31,7 @@ ghost use Rattle.def_layout.specs.Numbers.{zeros};
 ghost use Rattle.def_model.specs.OnBytes as calls;
 ghost use Rattle.def_model.specs.declared.Answer.the-variants.{Refused};
 ghost use Rattle.law_bytes.specs.AreaSizes.{HasPages, HasAreas};
-ghost use Rattle.area_lengths.specs.Lent.{lent};
+ghost use Rattle.area_lengths.specs.Lent.{at-entry, at-exit};
 ghost use Rattle.call_reply.specs.Replies.{Replies};
 ghost use Rattle.call_restart.specs.Image.{Judges, Image};
 ghost use Rattle.call_restart.specs.Redoing.{Readies};
@@ -189,9 +189,7 @@ pub fn restart_within(
     d: Desk,
     budget: usize,
 ) -> Reply
-    ensures { λ r.
-        ⌜ Replies calls.restart (lent (now (wp .entry)) (now (sp .entry)) (now (wl .entry)) (now (sl .entry))) d budget r
-        (lent (now (wp .exit)) (now (sp .entry)) (now (wl .exit)) (now (sl .exit))) ⌝ }
+    ensures { λ r. ⌜ Replies calls.restart (at-entry wp sp wl sl) d budget r (at-exit wp sp wl sl) ⌝ }
 {
     if !lengths_ok(wp, sp, wl, sl) {
         return refused(Refusal::Lengths, idle_desk(0));

@@ -15,7 +15,7 @@ use Rattle.def_model.specs.Undo.{undo-by, undo-line, undo-lines, end-batch, abo
 use Rattle.law_areas.specs.Logs.{AllFit}
 use Rattle.law_widths.specs.Rows.{batched-low, batch-narrow}
 use Rattle.tree_write.specs.declared.Run as program
-use Rattle.tree_write.specs.Shows.{Shows, Does, Keeping, narrow-keeping}
+use Rattle.tree_write.specs.Shows.{Shows, Keeping, narrow-keeping}
 use Rattle.log_pending.specs.declared.Line.{Line}
 use Rattle.log_pending.specs.Below.{Linked}
 use Rattle.log_pending.specs.Holding.{Sits, linked-rest}
@@ -119,7 +119,7 @@ pub abort-parts : {n m : ℕ} {wp wl wp₁ wl₁ wp₂ wl₂ wp₃ wl₃ : List 
     → (Keeping m t r → Shows n m wp₁ wl₁ t₁ (emit r s))
     → ((s : Run) (l : List Rec) (ys : List model.Line) → Shows n m wp₁ wl₁ t₁ s → Grown l (s .log) → AllFit 1 l → Linked l ys → row .undo ≡ next-undo ys → row .pending ≡ length ys
     → Shows n m wp₂ wl₂ t₂ (undo-lines (row .batch) ys s))
-    → Does n m wp₂ wl₂ t₂ wp₃ wl₃ t₃ (end-batch (row .batch)) → Shows n m wp₃ wl₃ t₃ (abort-run y s)
+    → ((s : Run) → Shows n m wp₂ wl₂ t₂ s → Shows n m wp₃ wl₃ t₃ (end-batch (row .batch) s)) → Shows n m wp₃ wl₃ t₃ (abort-run y s)
 unfolding abort-run kind-of row-of
 abort-parts {n} {m} {wp₃ = wp₃} {wl₃ = wl₃} {t = t} {t₃ = t₃} {s = s} h few row y r e sits fits q mark lines stop =
     let a : Shows n m _ _ _ (emit r s) = mark (batch-keeping t 7 (row .batch) (row .last) r few (lit< tt) q) in

@@ -23,7 +23,7 @@ use Rattle.theory_ledger.specs.Batching.{distinct-change}
 use Rattle.theory_ledger.specs.Telling.{numbered-open}
 use Rattle.theory_history.specs.Marking.{change-mid, distinct-mid}
 use Rattle.tree_write.specs.declared.Run as program
-use Rattle.tree_write.specs.Shows.{Shows, Does}
+use Rattle.tree_write.specs.Shows.{Shows}
 use Rattle.log_pending.specs.declared.Line.{Line}
 use Rattle.log_pending.specs.Below.{Linked}
 use Rattle.log_pending.specs.Holding.{linked-rest, Holds}
@@ -108,7 +108,7 @@ module _ {n m : ℕ} {wp wl wp₁ wl₁ : List ℕ} {t t₁ : program.Run} (row 
         let v : Run = undo-line (b .number) (next-undo ys) y s in
         record { run = subst (Shows n m wp₁ wl₁ t₁) (busy-after ys (b .number) v (λ q. z (count ∙ ap suc q)) ∙ sym newest-by) undone; row = new-row }
 
-    pub line-last : {wp₂ wl₂ : List ℕ} {t₂ : program.Run} → row .pending ≡ 1 → Does n m wp₁ wl₁ t₁ wp₂ wl₂ t₂ (end-batch (row .batch))
+    pub line-last : {wp₂ wl₂ : List ℕ} {t₂ : program.Run} → row .pending ≡ 1 → ((s : Run) → Shows n m wp₁ wl₁ t₁ s → Shows n m wp₂ wl₂ t₂ (end-batch (row .batch) s))
         → UndoesRow n m wp₂ wl₂ (record { run = t₂; row = shorter row (x .below) }) s b ys
     unfolding row-of
     line-last {wp₂} {wl₂} {t₂} z stop =

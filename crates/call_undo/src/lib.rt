@@ -101,7 +101,7 @@ pub fn undo_lines(
 // An 8 right after the batch's last record.
 fn end_batch(wp: &mut [u8], wl: &mut [u8], n: usize, m: usize, t: Run, batch: u32) -> Run
     requires { ⌜ HasAreas n m (now wp) (now wl) ⌝ }
-    ensures { λ u. ⌜ Does n m (now (wp .entry)) (now (wl .entry)) t (now (wp .exit)) (now (wl .exit)) u (undoing.end-batch batch) ⌝ }
+    ensures { λ u. ⌜ Does n m wp wl t u (undoing.end-batch batch) ⌝ }
 {
     let r: Record = batch_row(8, batch, t.logged);
     emit(wp, wl, n, m, t, r)

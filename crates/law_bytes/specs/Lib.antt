@@ -18,3 +18,4 @@ pub mod PageAreas
 pub mod RecordBytes
 pub mod LogAreas
 pub mod AreaSizes
+pub mod Slices

@@ -10,6 +10,7 @@ use Rattle.def_layout.specs.Pages.{Page, at}
 use Rattle.def_layout.specs.Records.{Rec, Kind, data-row}
 use Rattle.def_model.specs.Lookup.{covering, entry-for}
 use Rattle.def_model.specs.Update.{Run, At, Pair, split-page, room-by, make-room, link-child, linked-by, direct-by, direct-for, direct, raise-by, raise-root, descend-add, find-add, emit, put-record}
+use Rattle.law_bytes.specs.Slices.{Slice}
 use Rattle.codec_page.specs.declared.Page as program
 use Rattle.codec_page.specs.Typed.{typed}
 use Rattle.record_pages.specs.Pages.{Reads, reads-count}
@@ -28,11 +29,11 @@ pub record ShowsPair (n m : ℕ) (wp wl : List ℕ) (a : two.Pair) (b : Pair) : 
   pub child : a .child ≡ b .child
 
 -- Does, of code that comes to a page, and of code that comes to a page and its child.
-abbrev pub DoesAt : (n m : ℕ) (wp wl : List ℕ) (t : run.Run) (wp′ wl′ : List ℕ) (a : here.At) (f : Run → At) → Type 0
-DoesAt n m wp wl t wp′ wl′ a f = (s : Run) → Shows n m wp wl t s → ShowsAt n m wp′ wl′ a (f s)
+abbrev pub DoesAt : (n m : ℕ) (wp wl : Slice) (t : run.Run) (a : here.At) (f : Run → At) → Type 0
+DoesAt n m wp wl t a f = (s : Run) → Shows n m (wp .entry .now) (wl .entry .now) t s → ShowsAt n m (wp .exit .now) (wl .exit .now) a (f s)
 
-abbrev pub DoesPair : (n m : ℕ) (wp wl : List ℕ) (t : run.Run) (wp′ wl′ : List ℕ) (d : two.Pair) (f : Run → Pair) → Type 0
-DoesPair n m wp wl t wp′ wl′ d f = (s : Run) → Shows n m wp wl t s → ShowsPair n m wp′ wl′ d (f s)
+abbrev pub DoesPair : (n m : ℕ) (wp wl : Slice) (t : run.Run) (d : two.Pair) (f : Run → Pair) → Type 0
+DoesPair n m wp wl t d f = (s : Run) → Shows n m (wp .entry .now) (wl .entry .now) t s → ShowsPair n m (wp .exit .now) (wl .exit .now) d (f s)
 
 -- ---- the half covering k
 
@@ -109,7 +110,7 @@ Down n m wp₀ wl₀ wp wl t₀ t k l₀ p₀ l p = (s : Run) → Shows n m wp�
 
 module _ {n m : ℕ} {wp₀ wl₀ wp wl : List ℕ} {t₀ t : run.Run} (k l₀ p₀ p : ℕ) where
   pub down-step : {wp′ wl′ : List ℕ} (l l′ : ℕ) (d : two.Pair) → l ≡ suc l′ → Down n m wp₀ wl₀ wp wl t₀ t k l₀ p₀ l p
-      → DoesPair n m wp wl t wp′ wl′ d (direct k p) → Down n m wp₀ wl₀ wp′ wl′ t₀ (d .run) k l₀ p₀ l′ (d .child)
+      → ((s : Run) → Shows n m wp wl t s → ShowsPair n m wp′ wl′ d (direct k p s)) → Down n m wp₀ wl₀ wp′ wl′ t₀ (d .run) k l₀ p₀ l′ (d .child)
   unfolding descend-add
   down-step l l′ d e down f s h =
       let (u, (g, q)) = down s h in

@@ -84,7 +84,7 @@ fn split_of(x: Page, p: u32, b: u32) -> Record
 
 fn split_page(wp: &mut [u8], wl: &mut [u8], n: usize, m: usize, t: Run, p: u32) -> Run
     requires { ⌜ HasAreas n m (now wp) (now wl) ⌝ }
-    ensures { λ u. ⌜ Does n m (now (wp .entry)) (now (wl .entry)) t (now (wp .exit)) (now (wl .exit)) u (model.split-page p) ⌝ }
+    ensures { λ u. ⌜ Does n m wp wl t u (model.split-page p) ⌝ }
 {
     let x = page_at(wp, n, p);
     let b = fresh(wp, n);
@@ -95,7 +95,7 @@ fn split_page(wp: &mut [u8], wl: &mut [u8], n: usize, m: usize, t: Run, p: u32) 
 // 01: "split P if it has 14 entries and go on in the half covering k".
 pub fn make_room(wp: &mut [u8], wl: &mut [u8], n: usize, m: usize, t: Run, k: u32, p: u32) -> At
     requires { ⌜ HasAreas n m (now wp) (now wl) ⌝ }
-    ensures { λ a. ⌜ DoesAt n m (now (wp .entry)) (now (wl .entry)) t (now (wp .exit)) (now (wl .exit)) a (model.make-room k p) ⌝ }
+    ensures { λ a. ⌜ DoesAt n m wp wl t a (model.make-room k p) ⌝ }
 {
     let x = page_at(wp, n, p);
     if x.count != MOST_ENTRIES {
@@ -120,7 +120,7 @@ pub fn link_child(
     w: u32,
 ) -> Run
     requires { ⌜ HasAreas n m (now wp) (now wl) ⌝ }
-    ensures { λ u. ⌜ Does n m (now (wp .entry)) (now (wl .entry)) t (now (wp .exit)) (now (wl .exit)) u (model.link-child p q w) ⌝ }
+    ensures { λ u. ⌜ Does n m wp wl t u (model.link-child p q w) ⌝ }
 {
     let x = page_at(wp, n, q);
     emit(wp, wl, n, m, t, link_row(p, q, x.right, x.high, w))
@@ -130,7 +130,7 @@ pub fn link_child(
 // covering k."
 pub fn direct(wp: &mut [u8], wl: &mut [u8], n: usize, m: usize, t: Run, k: u32, p: u32) -> Pair
     requires { ⌜ HasAreas n m (now wp) (now wl) ⌝ }
-    ensures { λ d. ⌜ DoesPair n m (now (wp .entry)) (now (wl .entry)) t (now (wp .exit)) (now (wl .exit)) d (model.direct k p) ⌝ }
+    ensures { λ d. ⌜ DoesPair n m wp wl t d (model.direct k p) ⌝ }
 {
     let x = page_at(wp, n, p);
     let e = entry_for(x, k);
@@ -154,7 +154,7 @@ pub fn direct(wp: &mut [u8], wl: &mut [u8], n: usize, m: usize, t: Run, k: u32, 
 // Step 1: "If the root has a right sibling: raise."
 pub fn raise_root(wp: &mut [u8], wl: &mut [u8], n: usize, m: usize, t: Run) -> Run
     requires { ⌜ HasAreas n m (now wp) (now wl) ⌝ }
-    ensures { λ u. ⌜ Does n m (now (wp .entry)) (now (wl .entry)) t (now (wp .exit)) (now (wl .exit)) u model.raise-root ⌝ }
+    ensures { λ u. ⌜ Does n m wp wl t u model.raise-root ⌝ }
 {
     let x = page_at(wp, n, 1);
     if x.right == 0 {
@@ -168,7 +168,7 @@ pub fn raise_root(wp: &mut [u8], wl: &mut [u8], n: usize, m: usize, t: Run) -> R
 // Down to the leaf that covers k, from the root.
 fn descend_add(wp: &mut [u8], wl: &mut [u8], n: usize, m: usize, t: Run, k: u32) -> At
     requires { ⌜ HasAreas n m (now wp) (now wl) ⌝ }
-    ensures { λ a. ⌜ DoesAt n m (now (wp .entry)) (now (wl .entry)) t (now (wp .exit)) (now (wl .exit)) a (λ (s : model.Run). model.descend-add (layout.at (s .pages) 1 .level) k 1 s) ⌝ }
+    ensures { λ a. ⌜ DoesAt n m wp wl t a (λ (s : model.Run). model.descend-add (layout.at (s .pages) 1 .level) k 1 s) ⌝ }
 {
     let root = page_at(wp, n, 1);
     let mut l = root.level;
@@ -186,7 +186,7 @@ fn descend_add(wp: &mut [u8], wl: &mut [u8], n: usize, m: usize, t: Run, k: u32)
 // The leaf to add k to. Step 4: "When adding, a full leaf is split."
 fn find_add(wp: &mut [u8], wl: &mut [u8], n: usize, m: usize, t: Run, k: u32) -> At
     requires { ⌜ HasAreas n m (now wp) (now wl) ⌝ }
-    ensures { λ a. ⌜ DoesAt n m (now (wp .entry)) (now (wl .entry)) t (now (wp .exit)) (now (wl .exit)) a (model.find-add k) ⌝ }
+    ensures { λ a. ⌜ DoesAt n m wp wl t a (model.find-add k) ⌝ }
 {
     let u = raise_root(wp, wl, n, m, t);
     let a = descend_add(wp, wl, n, m, u, k);
@@ -207,7 +207,7 @@ pub fn put_record(
     v: u32,
 ) -> Run
     requires { ⌜ HasAreas n m (now wp) (now wl) × (kind < 9) ⌝ }
-    ensures { λ u. ⌜ Does n m (now (wp .entry)) (now (wl .entry)) t (now (wp .exit)) (now (wl .exit)) u (model.put-record (kind-of kind) batch previous k v) ⌝ }
+    ensures { λ u. ⌜ Does n m wp wl t u (model.put-record (kind-of kind) batch previous k v) ⌝ }
 {
     let a = find_add(wp, wl, n, m, t, k);
     let r = data_row(kind, batch, previous, a.page, k, v);

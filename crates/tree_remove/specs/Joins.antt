@@ -23,7 +23,7 @@ use Rattle.tree_write.specs.declared.Run as run
 use Rattle.tree_write.specs.Shows.{Shows}
 use Rattle.tree_add.specs.declared.At as here
 use Rattle.tree_add.specs.declared.Pair as two
-use Rattle.tree_add.specs.Rooms.{ShowsAt, ShowsPair, DoesAt, high-is, right-is}
+use Rattle.tree_add.specs.Rooms.{ShowsAt, ShowsPair, high-is, right-is}
 use Rattle.tree_remove.specs.Shares.{next-here, next-none, before-place}
 
 -- ---- a neighbour is found
@@ -152,7 +152,7 @@ Down n m wp₀ wl₀ wp wl t₀ t k l₀ p₀ l p =
 
 module _ {n m : ℕ} {wp₀ wl₀ wp wl : List ℕ} {t₀ t : run.Run} (k l₀ p₀ p : ℕ) where
   pub down-step : {wp′ wl′ : List ℕ} (l l′ : ℕ) (a : here.At) → l ≡ suc l′ → Down n m wp₀ wl₀ wp wl t₀ t k l₀ p₀ l p
-      → DoesAt n m wp wl t wp′ wl′ a (one-down k p) → Down n m wp₀ wl₀ wp′ wl′ t₀ (a .run) k l₀ p₀ l′ (a .page)
+      → ((s : Run) → Shows n m wp wl t s → ShowsAt n m wp′ wl′ a (one-down k p s)) → Down n m wp₀ wl₀ wp′ wl′ t₀ (a .run) k l₀ p₀ l′ (a .page)
   unfolding descend-remove
   down-step l l′ a e down f s h =
       let (u, (g, q)) = down s h in

@@ -106,7 +106,7 @@ fn join(
     w: u32,
 ) -> Run
     requires { ⌜ HasAreas n m (now wp) (now wl) ⌝ }
-    ensures { λ u. ⌜ Does n m (now (wp .entry)) (now (wl .entry)) t (now (wp .exit)) (now (wl .exit)) u (model.join p l r w) ⌝ }
+    ensures { λ u. ⌜ Does n m wp wl t u (model.join p l r w) ⌝ }
 {
     let x = page_at(wp, n, l);
     let y = page_at(wp, n, r);
@@ -131,7 +131,7 @@ fn link_after(
     w: u32,
 ) -> Run
     requires { ⌜ HasAreas n m (now wp) (now wl) ⌝ }
-    ensures { λ u. ⌜ Does n m (now (wp .entry)) (now (wl .entry)) t (now (wp .exit)) (now (wl .exit)) u (model.link-after p r w) ⌝ }
+    ensures { λ u. ⌜ Does n m wp wl t u (model.link-after p r w) ⌝ }
 {
     let x = page_at(wp, n, r);
     if x.high >= w {
@@ -152,7 +152,7 @@ fn unlink_join(
     r: u32,
 ) -> Run
     requires { ⌜ HasAreas n m (now wp) (now wl) ⌝ }
-    ensures { λ u. ⌜ Does n m (now (wp .entry)) (now (wl .entry)) t (now (wp .exit)) (now (wl .exit)) u (model.unlink-join p l r) ⌝ }
+    ensures { λ u. ⌜ Does n m wp wl t u (model.unlink-join p l r) ⌝ }
 {
     let x = page_at(wp, n, l);
     let y = page_at(wp, n, r);
@@ -172,7 +172,7 @@ fn join_left(
     q: u32,
 ) -> Run
     requires { ⌜ HasAreas n m (now wp) (now wl) ⌝ }
-    ensures { λ u. ⌜ Does n m (now (wp .entry)) (now (wl .entry)) t (now (wp .exit)) (now (wl .exit)) u (model.join-left p d q) ⌝ }
+    ensures { λ u. ⌜ Does n m wp wl t u (model.join-left p d q) ⌝ }
 {
     let x = page_at(wp, n, d);
     if x.right == q {
@@ -184,7 +184,7 @@ fn join_left(
 // 01: "If Q is not P's last child, take R, the next ..; If Q is last, take its left neighbour L, linking it first if indirect".
 fn restock(wp: &mut [u8], wl: &mut [u8], n: usize, m: usize, t: Run, k: u32, q: u32, p: u32) -> Run
     requires { ⌜ HasAreas n m (now wp) (now wl) ⌝ }
-    ensures { λ u. ⌜ Does n m (now (wp .entry)) (now (wl .entry)) t (now (wp .exit)) (now (wl .exit)) u (λ (s : model.Run). model.restock k q (record { run = s; page = p })) ⌝ }
+    ensures { λ u. ⌜ Does n m wp wl t u (λ (s : model.Run). model.restock k q (record { run = s; page = p })) ⌝ }
 {
     let x = page_at(wp, n, p);
     let es = x.entries;
@@ -231,7 +231,7 @@ fn stocked(wp: &mut [u8], wl: &mut [u8], n: usize, m: usize, d: Pair, k: u32) ->
 // The root takes the level and the entries of its only child q.
 fn lower_root(wp: &mut [u8], wl: &mut [u8], n: usize, m: usize, t: Run, q: u32) -> Run
     requires { ⌜ HasAreas n m (now wp) (now wl) ⌝ }
-    ensures { λ u. ⌜ Does n m (now (wp .entry)) (now (wl .entry)) t (now (wp .exit)) (now (wl .exit)) u (model.lower-root q) ⌝ }
+    ensures { λ u. ⌜ Does n m wp wl t u (model.lower-root q) ⌝ }
 {
     let x = page_at(wp, n, q);
     emit(wp, wl, n, m, t, lower_row(x.level, q, list_of(x)))
@@ -258,7 +258,7 @@ fn step(wp: &mut [u8], wl: &mut [u8], n: usize, m: usize, d: Pair, k: u32) -> At
 // Down to the leaf that covers k, from the root.
 fn descend_remove(wp: &mut [u8], wl: &mut [u8], n: usize, m: usize, t: Run, k: u32) -> At
     requires { ⌜ HasAreas n m (now wp) (now wl) ⌝ }
-    ensures { λ a. ⌜ DoesAt n m (now (wp .entry)) (now (wl .entry)) t (now (wp .exit)) (now (wl .exit)) a (λ (s : model.Run). model.descend-remove (layout.at (s .pages) 1 .level) k 1 s) ⌝ }
+    ensures { λ a. ⌜ DoesAt n m wp wl t a (λ (s : model.Run). model.descend-remove (layout.at (s .pages) 1 .level) k 1 s) ⌝ }
 {
     let root = page_at(wp, n, 1);
     let mut l = root.level;
@@ -288,7 +288,7 @@ pub fn remove_record(
     v: u32,
 ) -> Run
     requires { ⌜ HasAreas n m (now wp) (now wl) × (kind < 9) ⌝ }
-    ensures { λ u. ⌜ Does n m (now (wp .entry)) (now (wl .entry)) t (now (wp .exit)) (now (wl .exit)) u (model.remove-record (kind-of kind) batch previous k v) ⌝ }
+    ensures { λ u. ⌜ Does n m wp wl t u (model.remove-record (kind-of kind) batch previous k v) ⌝ }
 {
     let u = raise_root(wp, wl, n, m, t);
     let a = descend_remove(wp, wl, n, m, u, k);

@@ -23,7 +23,7 @@ ghost use Rattle.law_bytes.specs.AreaSizes.{HasPages, HasSlots, HasAreas};
 ghost use Rattle.law_bytes.specs.Patch.{patch};
 ghost use Rattle.record_apply.specs.Pages.{rec};
 ghost use Rattle.record_pages.specs.Pages.{Pages};
-ghost use Rattle.tree_write.specs.Shows.{Shows, Does, Keeping};
+ghost use Rattle.tree_write.specs.Shows.{Shows, Keeping};
 
 // Where a run stands: the last record's number, and why it stopped (0: it goes on; else 17 or 18).
 pub struct Run {
@@ -79,7 +79,7 @@ pub fn note(wl: &mut [u8], m: usize, t: Run, kind: u32, batch: u32, previous: u3
     requires { ⌜ HasSlots m (now wl) × (shape (kind-of kind) ≡ changes false false false false) ⌝ }
     ensures { λ u.
         ⌜ (t .logged ≤ u .logged) × (t .logged ≤ m → u .logged ≤ m)
-        × ((n : ℕ) (wp : List ℕ) → Does n m wp (now (wl .entry)) t wp (now (wl .exit)) u (model.emit (batch-row (kind-of kind) batch previous))) ⌝ }
+        × ((n : ℕ) (wp : List ℕ) (s : model.Run) → Shows n m wp (now (wl .entry)) t s → Shows n m wp (now (wl .exit)) u (model.emit (batch-row (kind-of kind) batch previous) s)) ⌝ }
 {
     if t.stop != 0 {
         return t;
