@@ -21,7 +21,7 @@ ghost use Rattle.def_layout.specs.RecordBytes.{empty};
 ghost use Rattle.def_model.specs.Calls.{formatted-pages};
 ghost use Rattle.def_model.specs.OnBytes.{pages-bytes, log-bytes};
 ghost use Rattle.codec_page.specs.Typed.{typed};
-ghost use Rattle.area_lengths.specs.Lent.{lent, Sized};
+ghost use Rattle.area_lengths.specs.Lent.{at-entry, at-exit, Sized};
 ghost use Rattle.area_store.specs.Lists.{Leads};
 ghost use Rattle.area_format.specs.Formatted.{Formatted, all-parts};
 
@@ -84,7 +84,7 @@ fn store_formatted(sp: &mut [u8], sl: &mut [u8], wp: &[u8], wl: &[u8], budget: u
     requires { ⌜ Sized (now wp) (now sp) (now wl) (now sl) ⌝ }
     ensures { λ _.
         ⌜ Leads (all-parts (length (now (wp .entry)) / page-size) (length (now (wl .entry)) / slot-size)) budget (now (wp .entry)) (now (wl .entry))
-        (lent (now (wp .entry)) (now (sp .entry)) (now (wl .entry)) (now (sl .entry))) (lent (now (wp .entry)) (now (sp .exit)) (now (wl .entry)) (now (sl .exit))) ⌝ }
+        (at-entry wp sp wl sl) (at-exit wp sp wl sl) ⌝ }
 {
     let pages = Span {
         pages: true,
@@ -106,7 +106,7 @@ fn store_formatted(sp: &mut [u8], sl: &mut [u8], wp: &[u8], wl: &[u8], budget: u
 // 01's format: the working areas, and of its stores as many as the budget lasts for.
 pub fn format(wp: &mut [u8], sp: &mut [u8], wl: &mut [u8], sl: &mut [u8], budget: usize)
     requires { ⌜ Sized (now wp) (now sp) (now wl) (now sl) ⌝ }
-    ensures { λ _. ⌜ Formatted budget (lent (now (wp .entry)) (now (sp .entry)) (now (wl .entry)) (now (sl .entry))) (lent (now (wp .exit)) (now (sp .exit)) (now (wl .exit)) (now (sl .exit))) ⌝ }
+    ensures { λ _. ⌜ Formatted budget (at-entry wp sp wl sl) (at-exit wp sp wl sl) ⌝ }
 {
     format_work(wp, wl);
     store_formatted(sp, sl, wp, wl, budget);

@@ -10,7 +10,7 @@ ghost use mathlib.Core.Bool.{_&&_};
 ghost use Prim.Native.Nat.{_%_, _<_};
 ghost use lib.Dec.{leb, eqb};
 ghost use Rattle.def_model.specs.OnBytes.{lengths-ok};
-ghost use Rattle.area_lengths.specs.Lent.{lent};
+ghost use Rattle.area_lengths.specs.Lent.{at-entry};
 
 // The lengths of the areas, in bytes.
 const SHORTEST_PAGES: usize = LEAST_PAGES * PAGE_SIZE;
@@ -37,7 +37,7 @@ fn measured(bytes: usize, size: usize, least: usize, most: usize) -> bool
 
 // 01: "Pages are 128 bytes, 16 to 896 of them. Log slots are 144 bytes, 64 to 16,384."
 pub fn lengths_ok(wp: &[u8], sp: &[u8], wl: &[u8], sl: &[u8]) -> bool
-    ensures { λ r. ⌜ r ≡ lengths-ok (lent (now (wp .entry)) (now (sp .entry)) (now (wl .entry)) (now (sl .entry))) ⌝ }
+    ensures { λ r. ⌜ r ≡ lengths-ok (at-entry wp sp wl sl) ⌝ }
 {
     if !measured(wp.len(), PAGE_SIZE, SHORTEST_PAGES, LONGEST_PAGES) {
         return false;

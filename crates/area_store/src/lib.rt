@@ -12,7 +12,7 @@ ghost use lib.ListN.{length};
 ghost use Rattle.def_layout.specs.Sizes.{slot-size, most-slots};
 ghost use Rattle.def_model.specs.Areas.{Store};
 ghost use Rattle.def_model.specs.OnBytes.{store-bytes};
-ghost use Rattle.area_lengths.specs.Lent.{lent};
+ghost use Rattle.area_lengths.specs.Lent.{at-entry, at-exit};
 ghost use Rattle.area_store.specs.Lists.{span-place, place, count, Fits, Lists, kth, Leads, Made};
 ghost use Rattle.area_store.specs.Beside.{SlotsLeft};
 
@@ -62,9 +62,7 @@ fn place_of(s: Stores, k: usize) -> Place
 // ONE STORE: the k-th of a list and no other, where the first k are made.
 fn store_one(sp: &mut [u8], sl: &mut [u8], wp: &[u8], wl: &[u8], s: Stores, k: usize)
     requires { ⌜ (k < count s) × Fits s (now wp) (now sp) (now wl) (now sl) × Made s k (now wp) (now sp) (now wl) (now sl) ⌝ }
-    ensures { λ _.
-        ⌜ ((ts : List Store) → Lists (now (wp .entry)) (now (wl .entry)) s ts
-        → lent (now (wp .entry)) (now (sp .exit)) (now (wl .entry)) (now (sl .exit)) ≡ store-bytes (kth ts k) (lent (now (wp .entry)) (now (sp .entry)) (now (wl .entry)) (now (sl .entry)))) ⌝ }
+    ensures { λ _. ⌜ ((ts : List Store) → Lists (now (wp .entry)) (now (wl .entry)) s ts → at-exit wp sp wl sl ≡ store-bytes (kth ts k) (at-entry wp sp wl sl)) ⌝ }
 {
     let at = place_of(s, k);
     match at {
@@ -92,9 +90,7 @@ fn fewer(a: usize, b: usize) -> usize
 // THE FIRST STORES of a list, in order: as many as the budget lasts for.
 pub fn store_first(sp: &mut [u8], sl: &mut [u8], wp: &[u8], wl: &[u8], s: Stores, budget: usize)
     requires { ⌜ Fits s (now wp) (now sp) (now wl) (now sl) ⌝ }
-    ensures { λ _.
-        ⌜ Leads s budget (now (wp .entry)) (now (wl .entry)) (lent (now (wp .entry)) (now (sp .entry)) (now (wl .entry)) (now (sl .entry)))
-        (lent (now (wp .entry)) (now (sp .exit)) (now (wl .entry)) (now (sl .exit))) ⌝ }
+    ensures { λ _. ⌜ Leads s budget (now (wp .entry)) (now (wl .entry)) (at-entry wp sp wl sl) (at-exit wp sp wl sl) ⌝ }
 {
     let n = fewer(budget, s.first.count + s.rest.count);
     for k in 0..n {

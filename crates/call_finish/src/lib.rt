@@ -14,13 +14,11 @@ use def_model::Refusal;
 use sound_register::Standing;
 use tree_write::Run;
 use tree_write::note;
-ghost use mathlib.Core.Path.{_≡_};
 ghost use mathlib.Core.List.{List};
-ghost use Prim.Native.Nat.{ℕ, _*_, _≤_, _<_};
-ghost use lib.ListN.{length};
-ghost use Rattle.def_layout.specs.Sizes.{page-size, slot-size, most-pages, most-slots};
+ghost use Prim.Native.Nat.{ℕ, _≤_, _<_};
 ghost use Rattle.def_model.specs.OnBytes as calls;
-ghost use Rattle.area_lengths.specs.Lent.{lent};
+ghost use Rattle.law_bytes.specs.AreaSizes.{HasSlots, HasAreas};
+ghost use Rattle.area_lengths.specs.Lent.{lent, at-entry, at-exit};
 ghost use Rattle.call_reply.specs.Replies.{Replies};
 ghost use Rattle.call_slides.specs.Given.{Given};
 
@@ -34,7 +32,7 @@ pub fn commit_in(
     b: u32,
     budget: usize,
 ) -> Reply
-    requires { ⌜ (length (now wl) ≡ slot-size * m) × (m ≤ most-slots) × (length (now sl) ≡ slot-size * m) × (d .stored ≤ d .logged) × (d .logged ≤ m) ⌝ }
+    requires { ⌜ HasSlots m (now wl) × HasSlots m (now sl) × (d .stored ≤ d .logged) × (d .logged ≤ m) ⌝ }
     ensures { λ r.
         ⌜ ((n : ℕ) (wp sp : List ℕ) → Given n m wp sp (now (wl .entry)) (now (sl .entry)) d st
         → Replies (calls.commit b) (lent wp sp (now (wl .entry)) (now (sl .entry))) d budget r (lent wp sp (now (wl .exit)) (now (sl .exit)))) ⌝ }
@@ -69,7 +67,7 @@ pub fn abort_in(
     st: Standing,
     b: u32,
 ) -> Reply
-    requires { ⌜ (length (now wp) ≡ page-size * n) × (n ≤ most-pages) × (length (now wl) ≡ slot-size * m) × (m ≤ most-slots) ⌝ }
+    requires { ⌜ HasAreas n m (now wp) (now wl) ⌝ }
     ensures { λ r.
         ⌜ ((budget : ℕ) (sp sl : List ℕ) → Given n m (now (wp .entry)) sp (now (wl .entry)) sl d st
         → Replies (calls.abort b) (lent (now (wp .entry)) sp (now (wl .entry)) sl) d budget r (lent (now (wp .exit)) sp (now (wl .exit)) sl)) ⌝ }
@@ -105,10 +103,10 @@ pub fn write_out_in(
     p: u32,
     budget: usize,
 ) -> Reply
-    requires { ⌜ (length (now wp) ≡ page-size * n) × (n ≤ most-pages) × (length (now sp) ≡ page-size * n) × (length (now wl) ≡ slot-size * m) × (m ≤ most-slots) × (length (now sl) ≡ slot-size * m) × (d .stored ≤ d .logged) × (d .logged ≤ m) × (p < n) ⌝ }
+    requires { ⌜ HasAreas n m (now wp) (now wl) × HasAreas n m (now sp) (now sl) × (d .stored ≤ d .logged) × (d .logged ≤ m) × (p < n) ⌝ }
     ensures { λ r.
         ⌜ ((st : Standing) → Given n m (now (wp .entry)) (now (sp .entry)) (now (wl .entry)) (now (sl .entry)) d st
-        → Replies (calls.write-out p) (lent (now (wp .entry)) (now (sp .entry)) (now (wl .entry)) (now (sl .entry))) d budget r (lent (now (wp .entry)) (now (sp .exit)) (now (wl .entry)) (now (sl .exit)))) ⌝ }
+        → Replies (calls.write-out p) (at-entry wp sp wl sl) d budget r (at-exit wp sp wl sl)) ⌝ }
 {
     let records = Span {
         pages: false,

@@ -1,6 +1,6 @@
 -- What every call finds first: refusal 1, refusal 11, or a sound register.
 use mathlib.Core.Path.{_≡_, ap, sym, _∙_, subst}
-use Prim.Native.Nat.{ℕ, _*_, _/_, _≤_, _<_}
+use Prim.Native.Nat.{ℕ, _/_, _≤_, _<_}
 use native.Mathlib.Omega.{arith}
 use mathlib.Core.Bool.{true, false}
 use mathlib.Core.Option.{some}
@@ -18,6 +18,7 @@ use Rattle.def_model.specs.Sound.{sound}
 use Rattle.def_model.specs.OnBytes.{Call, lengths-ok, read-areas}
 use Rattle.area_lengths.specs.Lent.{lent, Sized, lengths-numbers}
 use Rattle.log_pending.specs.Reading.{reads-few}
+use Rattle.law_bytes.specs.AreaSizes.{HasAreas}
 use Rattle.law_bytes.specs.DeskRows.{LowRows}
 use Rattle.log_judge.specs.Accepted as judge
 use Rattle.sound_register.specs.declared.Standing.{Standing}
@@ -31,8 +32,7 @@ use Rattle.call_register.specs.Refusals.{names, by-1, by-2, by-11}
 -- The numbers that later steps ask for.
 abbrev pub Sizes : (n m : ℕ) (wp sp wl sl : List ℕ) (d : Desk) (st : Standing) → Type 0
 Sizes n m wp sp wl sl d st =
-    (length wp ≡ 128 * n) × (n ≤ 896) × (length sp ≡ 128 * n) × (length wl ≡ 144 * m) × (m ≤ 16384) × (length sl ≡ 144 * m)
-    × (d .stored ≤ d .logged) × (d .logged ≤ m) × (st .pending ≤ 16384) × LowRows (d .rows)
+    HasAreas n m wp wl × HasAreas n m sp sl × (d .stored ≤ d .logged) × (d .logged ≤ m) × (st .pending ≤ 16384) × LowRows (d .rows)
 
 pub record Entered (wp sp wl sl : List ℕ) (d : Desk) (p : ℕ) (e : Entry) : Type 0 where
   pub refuses : e .refused ≡ true → (c : Call) (budget : ℕ) (r : Reply) → (r .answer ≡ Refused (e .why)) × (r .desk ≡ d) → names c ≡ some p
@@ -80,12 +80,8 @@ module _ (wp sp wl sl : List ℕ) (d : Desk) (p : ℕ) (e : Entry) where
             sizes =
                 λ t. (
                   (
-                    omega (arith, n-is, z .0),
-                    omega (arith, n-is, z .2),
-                    omega (arith, n-is, z .0, z .3),
-                    omega (arith, m-is, z .4),
-                    few,
-                    omega (arith, m-is, z .4, z .7),
+                    (omega (arith, n-is, z .0), omega (arith, n-is, z .2), omega (arith, m-is, z .4), few),
+                    (omega (arith, n-is, z .0, z .3), omega (arith, n-is, z .2), omega (arith, m-is, z .4, z .7), few),
                     omega (arith, k .stored, k .logged),
                     omega (arith, k .logged, read),
                     low .1,

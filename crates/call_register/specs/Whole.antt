@@ -32,10 +32,9 @@ use Rattle.area_store.specs.Parts.{slot-stores-length, page-stores-length}
 use Rattle.area_store.specs.Unstored.{log-stores-length}
 use Rattle.theory_room.specs.Restarting.{restarted-within}
 use Rattle.call_reply.specs.declared.Reply.{Reply}
-use Rattle.call_reply.specs.Replies.{Replies}
+use Rattle.call_reply.specs.Replies.{Replies, RepliesWhole}
 
-pub whole : {c : Call} {l : Lent} {d : Desk} {budget : ℕ} {r : Reply} {after : Lent} → length (call c l d .stores) ≤ budget → Replies c l d budget r after
-    → Replies c l d (length (call c l d .stores)) r after
+pub whole : {c : Call} {l : Lent} {d : Desk} {budget : ℕ} {r : Reply} {after : Lent} → length (call c l d .stores) ≤ budget → Replies c l d budget r after → RepliesWhole c l d r after
 unfolding lent-after
 whole {c} {l} {d} {budget} few h =
     record {

@@ -23,10 +23,9 @@ use sound_register::standing_of;
 ghost use mathlib.Core.Path.{_≡_};
 ghost use mathlib.Core.Bool.{true};
 ghost use Prim.Native.Nat.{ℕ};
-ghost use lib.ListN.{length};
 ghost use Rattle.def_model.specs.OnBytes as calls;
-ghost use Rattle.area_lengths.specs.Lent.{lent};
-ghost use Rattle.call_reply.specs.Replies.{Replies};
+ghost use Rattle.area_lengths.specs.Lent.{at-entry, at-exit};
+ghost use Rattle.call_reply.specs.Replies.{Replies, RepliesWhole};
 ghost use Rattle.call_register.specs.Entered.{Entered};
 
 // What a call finds first: that it is refused, and why; or how many pages and slots there are, and where the register stands.
@@ -83,7 +82,7 @@ fn enter(wp: &[u8], sp: &[u8], wl: &[u8], sl: &[u8], d: Desk, p: u32) -> Entry
 
 // A new batch.
 pub fn begin(wp: &[u8], sp: &[u8], wl: &mut [u8], sl: &[u8], d: Desk) -> Reply
-    ensures { λ r. ⌜ ((budget : ℕ) → Replies calls.begin (lent (now (wp .entry)) (now (sp .entry)) (now (wl .entry)) (now (sl .entry))) d budget r (lent (now (wp .entry)) (now (sp .entry)) (now (wl .exit)) (now (sl .entry)))) ⌝ }
+    ensures { λ r. ⌜ ((budget : ℕ) → Replies calls.begin (at-entry wp sp wl sl) d budget r (at-exit wp sp wl sl)) ⌝ }
 {
     let e = enter(wp, sp, wl, sl, d, 0);
     if e.refused {
@@ -96,7 +95,7 @@ pub fn begin(wp: &[u8], sp: &[u8], wl: &mut [u8], sl: &[u8], d: Desk) -> Reply
 
 // A key's value.
 pub fn fetch(wp: &[u8], sp: &[u8], wl: &[u8], sl: &[u8], d: Desk, b: u32, k: u32) -> Reply
-    ensures { λ r. ⌜ ((budget : ℕ) → Replies (calls.fetch b k) (lent (now (wp .entry)) (now (sp .entry)) (now (wl .entry)) (now (sl .entry))) d budget r (lent (now (wp .entry)) (now (sp .entry)) (now (wl .entry)) (now (sl .entry)))) ⌝ }
+    ensures { λ r. ⌜ ((budget : ℕ) → Replies (calls.fetch b k) (at-entry wp sp wl sl) d budget r (at-exit wp sp wl sl)) ⌝ }
 {
     let e = enter(wp, sp, wl, sl, d, 0);
     if e.refused {
@@ -108,7 +107,7 @@ pub fn fetch(wp: &[u8], sp: &[u8], wl: &[u8], sl: &[u8], d: Desk, b: u32, k: u32
 
 // The first record above a key.
 pub fn next(wp: &[u8], sp: &[u8], wl: &[u8], sl: &[u8], d: Desk, b: u32, k: u32) -> Reply
-    ensures { λ r. ⌜ ((budget : ℕ) → Replies (calls.next b k) (lent (now (wp .entry)) (now (sp .entry)) (now (wl .entry)) (now (sl .entry))) d budget r (lent (now (wp .entry)) (now (sp .entry)) (now (wl .entry)) (now (sl .entry)))) ⌝ }
+    ensures { λ r. ⌜ ((budget : ℕ) → Replies (calls.next b k) (at-entry wp sp wl sl) d budget r (at-exit wp sp wl sl)) ⌝ }
 {
     let e = enter(wp, sp, wl, sl, d, 0);
     if e.refused {
@@ -129,7 +128,7 @@ pub fn insert(
     k: u32,
     v: u32,
 ) -> Reply
-    ensures { λ r. ⌜ ((budget : ℕ) → Replies (calls.insert b k v) (lent (now (wp .entry)) (now (sp .entry)) (now (wl .entry)) (now (sl .entry))) d budget r (lent (now (wp .exit)) (now (sp .entry)) (now (wl .exit)) (now (sl .entry)))) ⌝ }
+    ensures { λ r. ⌜ ((budget : ℕ) → Replies (calls.insert b k v) (at-entry wp sp wl sl) d budget r (at-exit wp sp wl sl)) ⌝ }
 {
     let e = enter(wp, sp, wl, sl, d, 0);
     if e.refused {
@@ -142,7 +141,7 @@ pub fn insert(
 
 // A slide is taken out.
 pub fn delete(wp: &mut [u8], sp: &[u8], wl: &mut [u8], sl: &[u8], d: Desk, b: u32, k: u32) -> Reply
-    ensures { λ r. ⌜ ((budget : ℕ) → Replies (calls.delete b k) (lent (now (wp .entry)) (now (sp .entry)) (now (wl .entry)) (now (sl .entry))) d budget r (lent (now (wp .exit)) (now (sp .entry)) (now (wl .exit)) (now (sl .entry)))) ⌝ }
+    ensures { λ r. ⌜ ((budget : ℕ) → Replies (calls.delete b k) (at-entry wp sp wl sl) d budget r (at-exit wp sp wl sl)) ⌝ }
 {
     let e = enter(wp, sp, wl, sl, d, 0);
     if e.refused {
@@ -163,7 +162,7 @@ pub fn commit_within(
     b: u32,
     budget: usize,
 ) -> Reply
-    ensures { λ r. ⌜ Replies (calls.commit b) (lent (now (wp .entry)) (now (sp .entry)) (now (wl .entry)) (now (sl .entry))) d budget r (lent (now (wp .entry)) (now (sp .entry)) (now (wl .exit)) (now (sl .exit))) ⌝ }
+    ensures { λ r. ⌜ Replies (calls.commit b) (at-entry wp sp wl sl) d budget r (at-exit wp sp wl sl) ⌝ }
 {
     let e = enter(wp, sp, wl, sl, d, 0);
     if e.refused {
@@ -176,7 +175,7 @@ pub fn commit_within(
 
 // A batch's slides go.
 pub fn abort(wp: &mut [u8], sp: &[u8], wl: &mut [u8], sl: &[u8], d: Desk, b: u32) -> Reply
-    ensures { λ r. ⌜ ((budget : ℕ) → Replies (calls.abort b) (lent (now (wp .entry)) (now (sp .entry)) (now (wl .entry)) (now (sl .entry))) d budget r (lent (now (wp .exit)) (now (sp .entry)) (now (wl .exit)) (now (sl .entry)))) ⌝ }
+    ensures { λ r. ⌜ ((budget : ℕ) → Replies (calls.abort b) (at-entry wp sp wl sl) d budget r (at-exit wp sp wl sl)) ⌝ }
 {
     let e = enter(wp, sp, wl, sl, d, 0);
     if e.refused {
@@ -197,7 +196,7 @@ pub fn write_out_within(
     p: u32,
     budget: usize,
 ) -> Reply
-    ensures { λ r. ⌜ Replies (calls.write-out p) (lent (now (wp .entry)) (now (sp .entry)) (now (wl .entry)) (now (sl .entry))) d budget r (lent (now (wp .entry)) (now (sp .exit)) (now (wl .entry)) (now (sl .exit))) ⌝ }
+    ensures { λ r. ⌜ Replies (calls.write-out p) (at-entry wp sp wl sl) d budget r (at-exit wp sp wl sl) ⌝ }
 {
     let e = enter(wp, sp, wl, sl, d, p);
     if e.refused {
@@ -216,7 +215,7 @@ pub fn format_within(
     d: Desk,
     budget: usize,
 ) -> Reply
-    ensures { λ r. ⌜ Replies calls.format (lent (now (wp .entry)) (now (sp .entry)) (now (wl .entry)) (now (sl .entry))) d budget r (lent (now (wp .exit)) (now (sp .exit)) (now (wl .exit)) (now (sl .exit))) ⌝ }
+    ensures { λ r. ⌜ Replies calls.format (at-entry wp sp wl sl) d budget r (at-exit wp sp wl sl) ⌝ }
 {
     let desk = idle_desk(0);
     if !lengths_ok(wp, sp, wl, sl) {
@@ -232,25 +231,25 @@ pub fn format_within(
 // ---- with all their stores
 
 pub fn format(wp: &mut [u8], sp: &mut [u8], wl: &mut [u8], sl: &mut [u8], d: Desk) -> Reply
-    ensures { λ r. ⌜ Replies calls.format (lent (now (wp .entry)) (now (sp .entry)) (now (wl .entry)) (now (sl .entry))) d (length (calls.call calls.format (lent (now (wp .entry)) (now (sp .entry)) (now (wl .entry)) (now (sl .entry))) d .stores)) r (lent (now (wp .exit)) (now (sp .exit)) (now (wl .exit)) (now (sl .exit))) ⌝ }
+    ensures { λ r. ⌜ RepliesWhole calls.format (at-entry wp sp wl sl) d r (at-exit wp sp wl sl) ⌝ }
 {
     format_within(wp, sp, wl, sl, d, 20000)
 }
 
 pub fn commit(wp: &[u8], sp: &[u8], wl: &mut [u8], sl: &mut [u8], d: Desk, b: u32) -> Reply
-    ensures { λ r. ⌜ Replies (calls.commit b) (lent (now (wp .entry)) (now (sp .entry)) (now (wl .entry)) (now (sl .entry))) d (length (calls.call (calls.commit b) (lent (now (wp .entry)) (now (sp .entry)) (now (wl .entry)) (now (sl .entry))) d .stores)) r (lent (now (wp .entry)) (now (sp .entry)) (now (wl .exit)) (now (sl .exit))) ⌝ }
+    ensures { λ r. ⌜ RepliesWhole (calls.commit b) (at-entry wp sp wl sl) d r (at-exit wp sp wl sl) ⌝ }
 {
     commit_within(wp, sp, wl, sl, d, b, 20000)
 }
 
 pub fn write_out(wp: &[u8], sp: &mut [u8], wl: &[u8], sl: &mut [u8], d: Desk, p: u32) -> Reply
-    ensures { λ r. ⌜ Replies (calls.write-out p) (lent (now (wp .entry)) (now (sp .entry)) (now (wl .entry)) (now (sl .entry))) d (length (calls.call (calls.write-out p) (lent (now (wp .entry)) (now (sp .entry)) (now (wl .entry)) (now (sl .entry))) d .stores)) r (lent (now (wp .entry)) (now (sp .exit)) (now (wl .entry)) (now (sl .exit))) ⌝ }
+    ensures { λ r. ⌜ RepliesWhole (calls.write-out p) (at-entry wp sp wl sl) d r (at-exit wp sp wl sl) ⌝ }
 {
     write_out_within(wp, sp, wl, sl, d, p, 20000)
 }
 
 pub fn restart(wp: &mut [u8], sp: &[u8], wl: &mut [u8], sl: &mut [u8], d: Desk) -> Reply
-    ensures { λ r. ⌜ Replies calls.restart (lent (now (wp .entry)) (now (sp .entry)) (now (wl .entry)) (now (sl .entry))) d (length (calls.call calls.restart (lent (now (wp .entry)) (now (sp .entry)) (now (wl .entry)) (now (sl .entry))) d .stores)) r (lent (now (wp .exit)) (now (sp .entry)) (now (wl .exit)) (now (sl .exit))) ⌝ }
+    ensures { λ r. ⌜ RepliesWhole calls.restart (at-entry wp sp wl sl) d r (at-exit wp sp wl sl) ⌝ }
 {
     restart_within(wp, sp, wl, sl, d, 20000)
 }

@@ -35,6 +35,10 @@ pub record Replies (c : Call) (l : Lent) (d : Desk) (budget : ℕ) (r : Reply) (
   pub desk : r .desk ≡ call c l d .desk
   pub areas : after ≡ lent-after budget (call c l d) l
 
+-- The reply to a call of which every store was carried out.
+abbrev pub RepliesWhole : (c : Call) (l : Lent) (d : Desk) (r : Reply) (after : Lent) → Type 0
+RepliesWhole c l d r after = Replies c l d (length (call c l d .stores)) r after
+
 -- ---- refusal 1
 
 pub lengths-refused : (c : Call) (l : Lent) (d : Desk) (budget : ℕ) (r : Reply) → lengths-ok l ≡ false → r .answer ≡ Refused Lengths → r .desk ≡ refused-desk c d

@@ -24,14 +24,14 @@ use tree_check::tree_ok;
 use tree_write::Run;
 ghost use mathlib.Core.Path.{_≡_};
 ghost use mathlib.Core.Bool.{false};
-ghost use Prim.Native.Nat.{_*_, _≤_};
+ghost use Prim.Native.Nat.{_≤_};
 ghost use lib.ListN.{length};
-ghost use Rattle.def_layout.specs.Sizes.{page-size, slot-size, most-pages, most-slots};
 ghost use Rattle.def_layout.specs.Desks.{empty-desk};
 ghost use Rattle.def_layout.specs.Numbers.{zeros};
 ghost use Rattle.def_model.specs.OnBytes as calls;
 ghost use Rattle.def_model.specs.declared.Answer.the-variants.{Refused};
-ghost use Rattle.area_lengths.specs.Lent.{lent};
+ghost use Rattle.law_bytes.specs.AreaSizes.{HasPages, HasAreas};
+ghost use Rattle.area_lengths.specs.Lent.{at-entry, at-exit};
 ghost use Rattle.call_reply.specs.Replies.{Replies};
 ghost use Rattle.call_restart.specs.Image.{Judges, Image};
 ghost use Rattle.call_restart.specs.Redoing.{Readies};
@@ -65,7 +65,7 @@ fn image_bad(why: Refusal) -> Verdict
 
 // Refusals 3 and 4 of an image of n pages and m slots.
 fn judged(sp: &[u8], sl: &[u8], n: usize, m: usize) -> Verdict
-    requires { ⌜ (length (now sp) ≡ page-size * n) × (n ≤ most-pages) × (length (now sl) ≡ slot-size * m) × (m ≤ most-slots) ⌝ }
+    requires { ⌜ HasAreas n m (now sp) (now sl) ⌝ }
     ensures { λ v. ⌜ Judges n m (now (sp .entry)) (now (sl .entry)) v ⌝ }
 {
     if !layouts_ok(sp, n) {
@@ -92,7 +92,7 @@ fn judged(sp: &[u8], sl: &[u8], n: usize, m: usize) -> Verdict
 
 // The copy of an image's pages is redone from record 1 of its log, and 5 and 6 are judged.
 fn redone(wp: &mut [u8], sl: &[u8], n: usize, m: usize, v: Verdict) -> Verdict
-    requires { ⌜ (length (now wp) ≡ page-size * n) × (n ≤ most-pages) × (length (now sl) ≡ slot-size * m) × (m ≤ most-slots) × (v .logged ≤ m) ⌝ }
+    requires { ⌜ HasAreas n m (now wp) (now sl) × (v .logged ≤ m) ⌝ }
     ensures { λ r. ⌜ (Image n m (now (wp .entry)) (now (sl .entry)) (v .rows) (v .logged) (v .marked) → Readies n m (now (wp .entry)) (now (sl .entry)) (now (wp .exit)) r) ⌝ }
 {
     let rows = v.rows;
@@ -119,7 +119,7 @@ fn redone(wp: &mut [u8], sl: &[u8], n: usize, m: usize, v: Verdict) -> Verdict
 
 // Refusals 3 to 6 of an image, whose pages become those of the working area and are redone there.
 fn readied(wp: &mut [u8], sp: &[u8], sl: &[u8], n: usize, m: usize) -> Verdict
-    requires { ⌜ (length (now wp) ≡ page-size * n) × (n ≤ most-pages) × (length (now sp) ≡ page-size * n) × (length (now sl) ≡ slot-size * m) × (m ≤ most-slots) ⌝ }
+    requires { ⌜ HasPages n (now wp) × HasAreas n m (now sp) (now sl) ⌝ }
     ensures { λ v. ⌜ Readies n m (now (sp .entry)) (now (sl .entry)) (now (wp .exit)) v ⌝ }
 {
     let v = judged(sp, sl, n, m);
@@ -150,7 +150,7 @@ fn recovered(
     m: usize,
     budget: usize,
 ) -> Reply
-    requires { ⌜ (length (now wp) ≡ page-size * n) × (n ≤ most-pages) × (length (now sp) ≡ page-size * n) × (length (now wl) ≡ slot-size * m) × (m ≤ most-slots) × (length (now sl) ≡ slot-size * m) ⌝ }
+    requires { ⌜ HasAreas n m (now wp) (now wl) × HasAreas n m (now sp) (now sl) ⌝ }
     ensures { λ r. ⌜ Recovers (now (wp .entry)) (now (sp .entry)) (now (wl .entry)) (now (sl .entry)) budget r (now (wp .exit)) (now (wl .exit)) (now (sl .exit)) ⌝ }
 {
     let v = readied(wp, sp, sl, n, m);
@@ -189,9 +189,7 @@ pub fn restart_within(
     d: Desk,
     budget: usize,
 ) -> Reply
-    ensures { λ r.
-        ⌜ Replies calls.restart (lent (now (wp .entry)) (now (sp .entry)) (now (wl .entry)) (now (sl .entry))) d budget r
-        (lent (now (wp .exit)) (now (sp .entry)) (now (wl .exit)) (now (sl .exit))) ⌝ }
+    ensures { λ r. ⌜ Replies calls.restart (at-entry wp sp wl sl) d budget r (at-exit wp sp wl sl) ⌝ }
 {
     if !lengths_ok(wp, sp, wl, sl) {
         return refused(Refusal::Lengths, idle_desk(0));

@@ -24,13 +24,14 @@ use tree_write::Run;
 use tree_write::note;
 ghost use mathlib.Core.Path.{_≡_};
 ghost use mathlib.Core.List.{List};
-ghost use Prim.Native.Nat.{ℕ, _+_, _*_, _≤_, _<_};
-ghost use lib.ListN.{length, set};
-ghost use Rattle.def_layout.specs.Sizes.{page-size, slot-size, most-pages, most-slots};
+ghost use Prim.Native.Nat.{ℕ, _+_, _≤_, _<_};
+ghost use lib.ListN.{set};
+ghost use Rattle.def_layout.specs.Sizes.{most-slots};
 ghost use Rattle.def_layout.specs.Desks.{row-at};
 ghost use Rattle.def_model.specs.Fit.{found};
 ghost use Rattle.def_model.specs.Calls.{value-or};
 ghost use Rattle.def_model.specs.OnBytes as calls;
+ghost use Rattle.law_bytes.specs.AreaSizes.{HasSlots, HasAreas};
 ghost use Rattle.law_bytes.specs.DeskRows.{LowRows};
 ghost use Rattle.tree_lookup.specs.Answers.{value-of};
 ghost use Rattle.area_lengths.specs.Lent.{lent};
@@ -65,7 +66,7 @@ pub fn live_row(d: Desk, marked: [bool; 8], b: u32) -> usize
 
 // "Begin answers the new batch number."
 pub fn begin_in(wl: &mut [u8], m: usize, d: Desk, st: Standing) -> Reply
-    requires { ⌜ (length (now wl) ≡ slot-size * m) × (m ≤ most-slots) × (d .logged ≤ m) × (st .pending ≤ most-slots) ⌝ }
+    requires { ⌜ HasSlots m (now wl) × (d .logged ≤ m) × (st .pending ≤ most-slots) ⌝ }
     ensures { λ r.
         ⌜ ((n budget : ℕ) (wp sp sl : List ℕ) → Given n m wp sp (now (wl .entry)) sl d st
         → Replies calls.begin (lent wp sp (now (wl .entry)) sl) d budget r (lent wp sp (now (wl .exit)) sl)) ⌝ }
@@ -93,7 +94,7 @@ pub fn begin_in(wl: &mut [u8], m: usize, d: Desk, st: Standing) -> Reply
 
 // "Fetch answers a key's value."
 pub fn fetch_in(wp: &[u8], wl: &[u8], n: usize, m: usize, d: Desk, b: u32, k: u32) -> Reply
-    requires { ⌜ (length (now wp) ≡ page-size * n) × (n ≤ most-pages) × (length (now wl) ≡ slot-size * m) × (m ≤ most-slots) ⌝ }
+    requires { ⌜ HasAreas n m (now wp) (now wl) ⌝ }
     ensures { λ r.
         ⌜ ((budget : ℕ) (sp sl : List ℕ) (st : Standing) → Given n m (now (wp .entry)) sp (now (wl .entry)) sl d st
         → Replies (calls.fetch b k) (lent (now (wp .entry)) sp (now (wl .entry)) sl) d budget r (lent (now (wp .entry)) sp (now (wl .entry)) sl)) ⌝ }
@@ -115,7 +116,7 @@ pub fn fetch_in(wp: &[u8], wl: &[u8], n: usize, m: usize, d: Desk, b: u32, k: u3
 
 // "Next answers the first record above a key."
 pub fn next_in(wp: &[u8], wl: &[u8], n: usize, m: usize, d: Desk, b: u32, k: u32) -> Reply
-    requires { ⌜ (length (now wp) ≡ page-size * n) × (n ≤ most-pages) × (length (now wl) ≡ slot-size * m) × (m ≤ most-slots) ⌝ }
+    requires { ⌜ HasAreas n m (now wp) (now wl) ⌝ }
     ensures { λ r.
         ⌜ ((budget : ℕ) (sp sl : List ℕ) (st : Standing) → Given n m (now (wp .entry)) sp (now (wl .entry)) sl d st
         → Replies (calls.next b k) (lent (now (wp .entry)) sp (now (wl .entry)) sl) d budget r (lent (now (wp .entry)) sp (now (wl .entry)) sl)) ⌝ }
@@ -196,7 +197,7 @@ fn update_bar(
     wrong: bool,
     says: Refusal,
 ) -> Bar
-    requires { ⌜ (length (now wl) ≡ slot-size * m) × (m ≤ most-slots) × (d .logged ≤ m) × (st .pending ≤ most-slots) ⌝ }
+    requires { ⌜ HasSlots m (now wl) × (d .logged ≤ m) × (st .pending ≤ most-slots) ⌝ }
     ensures { λ u.
         ⌜ (u .row ≤ 8)
         × ((n : ℕ) (wp sp sl : List ℕ) → Given n m wp sp (now (wl .entry)) sl d st → Bars d (lent wp sp (now (wl .entry)) sl) b k wrong says u) ⌝ }
@@ -235,7 +236,7 @@ pub fn insert_in(
     k: u32,
     v: u32,
 ) -> Reply
-    requires { ⌜ (length (now wp) ≡ page-size * n) × (n ≤ most-pages) × (length (now wl) ≡ slot-size * m) × (m ≤ most-slots) × (d .logged ≤ m) × (st .pending ≤ most-slots) × LowRows (d .rows) ⌝ }
+    requires { ⌜ HasAreas n m (now wp) (now wl) × (d .logged ≤ m) × (st .pending ≤ most-slots) × LowRows (d .rows) ⌝ }
     ensures { λ r.
         ⌜ ((budget : ℕ) (sp sl : List ℕ) → Given n m (now (wp .entry)) sp (now (wl .entry)) sl d st
         → Replies (calls.insert b k v) (lent (now (wp .entry)) sp (now (wl .entry)) sl) d budget r (lent (now (wp .exit)) sp (now (wl .exit)) sl)) ⌝ }
@@ -270,7 +271,7 @@ pub fn delete_in(
     b: u32,
     k: u32,
 ) -> Reply
-    requires { ⌜ (length (now wp) ≡ page-size * n) × (n ≤ most-pages) × (length (now wl) ≡ slot-size * m) × (m ≤ most-slots) × (d .logged ≤ m) × (st .pending ≤ most-slots) × LowRows (d .rows) ⌝ }
+    requires { ⌜ HasAreas n m (now wp) (now wl) × (d .logged ≤ m) × (st .pending ≤ most-slots) × LowRows (d .rows) ⌝ }
     ensures { λ r.
         ⌜ ((budget : ℕ) (sp sl : List ℕ) → Given n m (now (wp .entry)) sp (now (wl .entry)) sl d st
         → Replies (calls.delete b k) (lent (now (wp .entry)) sp (now (wl .entry)) sl) d budget r (lent (now (wp .exit)) sp (now (wl .exit)) sl)) ⌝ }

@@ -13,15 +13,15 @@ use tree_write::emit;
 ghost use mathlib.Core.Path.{_≡_};
 ghost use mathlib.Core.Bool.{false};
 ghost use mathlib.Core.List.{List, map};
-ghost use Prim.Native.Nat.{_*_, _≤_, _<_};
+ghost use Prim.Native.Nat.{_≤_, _<_};
 ghost use lib.ListN.{length};
-ghost use Rattle.def_layout.specs.Sizes.{page-size, slot-size, most-pages, most-slots};
 ghost use Rattle.def_layout.specs.Desks.{eight-rows};
 ghost use Rattle.def_layout.specs.Records.{Rec};
 ghost use Rattle.def_model.specs.Update as model;
 ghost use Rattle.def_model.specs.Batches as batches;
 ghost use Rattle.def_model.specs.Undo as undoing;
 ghost use Rattle.def_model.specs.Restart as restart;
+ghost use Rattle.law_bytes.specs.AreaSizes.{HasAreas};
 ghost use Rattle.law_areas.specs.Logs.{AllFit};
 ghost use Rattle.theory_ledger.specs.Held.{Distinct};
 ghost use Rattle.log_pending.specs.Below.{Linked};
@@ -30,7 +30,7 @@ ghost use Rattle.log_pending.specs.Lines.{shown-line};
 ghost use Rattle.law_bytes.specs.Eights.{eight};
 ghost use Rattle.law_bytes.specs.DeskRows.{LowRows};
 ghost use Rattle.log_chain.specs.Shown.{marks-of};
-ghost use Rattle.tree_write.specs.Shows.{Shows};
+ghost use Rattle.tree_write.specs.Shows.{Shows, Does};
 ghost use Rattle.call_undo.specs.Grown.{Grown};
 ghost use Rattle.call_undo.specs.Marking.{MarksTurn, Starts, MarkedAll};
 ghost use Rattle.call_undo.specs.Ending.{EndsTurn};
@@ -59,7 +59,7 @@ pub fn undo_line(
     batch: u32,
     x: Line,
 ) -> Run
-    requires { ⌜ (length (now wp) ≡ page-size * n) × (n ≤ most-pages) × (length (now wl) ≡ slot-size * m) × (m ≤ most-slots) ⌝ }
+    requires { ⌜ HasAreas n m (now wp) (now wl) ⌝ }
     ensures { λ u.
         ⌜ ((s : model.Run) (y : batches.Line) (ys : List batches.Line) → Shows n m (now (wp .entry)) (now (wl .entry)) t s → x ≡ shown-line y ys
         → Shows n m (now (wp .exit)) (now (wl .exit)) u (undoing.undo-line batch (batches.next-undo ys) y s)) ⌝ }
@@ -81,7 +81,7 @@ pub fn undo_lines(
     newest: u32,
     count: u32,
 ) -> Run
-    requires { ⌜ (length (now wp) ≡ page-size * n) × (n ≤ most-pages) × (length (now wl) ≡ slot-size * m) × (m ≤ most-slots) ⌝ }
+    requires { ⌜ HasAreas n m (now wp) (now wl) ⌝ }
     ensures { λ u.
         ⌜ ((s : model.Run) (l : List Rec) (ys : List batches.Line) → Shows n m (now (wp .entry)) (now (wl .entry)) t s → Grown l (s .log) → AllFit 1 l → Linked l ys
         → newest ≡ batches.next-undo ys → count ≡ length ys → Shows n m (now (wp .exit)) (now (wl .exit)) u (undoing.undo-lines batch ys s)) ⌝ }
@@ -100,8 +100,8 @@ pub fn undo_lines(
 
 // An 8 right after the batch's last record.
 fn end_batch(wp: &mut [u8], wl: &mut [u8], n: usize, m: usize, t: Run, batch: u32) -> Run
-    requires { ⌜ (length (now wp) ≡ page-size * n) × (n ≤ most-pages) × (length (now wl) ≡ slot-size * m) × (m ≤ most-slots) ⌝ }
-    ensures { λ u. ⌜ ((s : model.Run) → Shows n m (now (wp .entry)) (now (wl .entry)) t s → Shows n m (now (wp .exit)) (now (wl .exit)) u (undoing.end-batch batch s)) ⌝ }
+    requires { ⌜ HasAreas n m (now wp) (now wl) ⌝ }
+    ensures { λ u. ⌜ Does n m wp wl t u (undoing.end-batch batch) ⌝ }
 {
     let r: Record = batch_row(8, batch, t.logged);
     emit(wp, wl, n, m, t, r)
@@ -109,7 +109,7 @@ fn end_batch(wp: &mut [u8], wl: &mut [u8], n: usize, m: usize, t: Run, batch: u3
 
 // 01: "Abort writes a 7, undoes newest first, always from the root, then writes an 8": the batch of this row.
 pub fn abort_run(wp: &mut [u8], wl: &mut [u8], n: usize, m: usize, t: Run, row: Row) -> Run
-    requires { ⌜ (length (now wp) ≡ page-size * n) × (n ≤ most-pages) × (length (now wl) ≡ slot-size * m) × (m ≤ most-slots) ⌝ }
+    requires { ⌜ HasAreas n m (now wp) (now wl) ⌝ }
     ensures { λ u.
         ⌜ ((s : model.Run) (y : batches.Batch) → Shows n m (now (wp .entry)) (now (wl .entry)) t s → row ≡ batches.row-of y → Sits (s .log) y → AllFit 1 (s .log)
         → Shows n m (now (wp .exit)) (now (wl .exit)) u (undoing.abort-run y s)) ⌝ }
@@ -130,7 +130,7 @@ fn mark_row(
     row: Row,
     marked: bool,
 ) -> Turn
-    requires { ⌜ (length (now wp) ≡ page-size * n) × (n ≤ most-pages) × (length (now wl) ≡ slot-size * m) × (m ≤ most-slots) ⌝ }
+    requires { ⌜ HasAreas n m (now wp) (now wl) ⌝ }
     ensures { λ x. ⌜ MarksTurn n m (now (wp .entry)) (now (wl .entry)) (now (wp .exit)) (now (wl .exit)) t row marked x ⌝ }
 {
     if marked {
@@ -161,7 +161,7 @@ fn mark_all(
     marked: [bool; 8],
     used: usize,
 ) -> Round
-    requires { ⌜ (length (now wp) ≡ page-size * n) × (n ≤ most-pages) × (length (now wl) ≡ slot-size * m) × (m ≤ most-slots) × (used ≤ 8) ⌝ }
+    requires { ⌜ HasAreas n m (now wp) (now wl) × (used ≤ 8) ⌝ }
     ensures { λ x.
         ⌜ ((s : model.Run) → Starts n m (now (wp .entry)) (now (wl .entry)) t rows marked used s
         → MarkedAll n m (now (wp .exit)) (now (wl .exit)) x s (undoing.mark-all (batches.open-batches (s .log)) s)) ⌝ }
@@ -181,7 +181,7 @@ fn mark_all(
 
 // 01: "then in that order an 8 for each with nothing pending": the row's batch.
 fn end_row(wp: &mut [u8], wl: &mut [u8], n: usize, m: usize, t: Run, row: Row) -> Run
-    requires { ⌜ (length (now wp) ≡ page-size * n) × (n ≤ most-pages) × (length (now wl) ≡ slot-size * m) × (m ≤ most-slots) ⌝ }
+    requires { ⌜ HasAreas n m (now wp) (now wl) ⌝ }
     ensures { λ u. ⌜ EndsTurn n m (now (wp .entry)) (now (wl .entry)) (now (wp .exit)) (now (wl .exit)) t row u ⌝ }
 {
     if row.pending != 0 {
@@ -200,7 +200,7 @@ fn end_idle(
     rows: [Row; 8],
     used: usize,
 ) -> Run
-    requires { ⌜ (length (now wp) ≡ page-size * n) × (n ≤ most-pages) × (length (now wl) ≡ slot-size * m) × (m ≤ most-slots) × (used ≤ 8) ⌝ }
+    requires { ⌜ HasAreas n m (now wp) (now wl) × (used ≤ 8) ⌝ }
     ensures { λ u.
         ⌜ ((s : model.Run) (bs : List batches.Batch) → Shows n m (now (wp .entry)) (now (wl .entry)) t s → rows ≡ eight-rows (map batches.row-of bs) → used ≡ length bs
         → Shows n m (now (wp .exit)) (now (wl .exit)) u (undoing.end-idle bs s)) ⌝ }
@@ -240,7 +240,7 @@ fn newest_row(rows: [Row; 8]) -> usize
 
 // The newest line of the row's batch is undone, "with an 8 right after a batch's last".
 fn undo_newest(wp: &mut [u8], wl: &mut [u8], n: usize, m: usize, t: Run, row: Row) -> Turn
-    requires { ⌜ (length (now wp) ≡ page-size * n) × (n ≤ most-pages) × (length (now wl) ≡ slot-size * m) × (m ≤ most-slots) × (0 < row .pending) ⌝ }
+    requires { ⌜ HasAreas n m (now wp) (now wl) × (0 < row .pending) ⌝ }
     ensures { λ x. ⌜ UndoesTurn n m (now (wp .entry)) (now (wl .entry)) (now (wp .exit)) (now (wl .exit)) t row x ⌝ }
 {
     let x = line_at(wl, m, row.undo);
@@ -268,7 +268,7 @@ fn undo_all(
     rows: [Row; 8],
     count: u32,
 ) -> Run
-    requires { ⌜ (length (now wp) ≡ page-size * n) × (n ≤ most-pages) × (length (now wl) ≡ slot-size * m) × (m ≤ most-slots) ⌝ }
+    requires { ⌜ HasAreas n m (now wp) (now wl) ⌝ }
     ensures { λ u.
         ⌜ ((s : model.Run) (l : List Rec) (cs : List batches.Batch) → Shows n m (now (wp .entry)) (now (wl .entry)) t s → Grown l (s .log) → AllFit 1 l → Due l rows cs → Distinct cs
         → Shows n m (now (wp .exit)) (now (wl .exit)) u (undoing.undo-all count cs s)) ⌝ }
@@ -300,7 +300,7 @@ pub fn settle(
     rows: [Row; 8],
     marked: [bool; 8],
 ) -> Run
-    requires { ⌜ (length (now wp) ≡ page-size * n) × (n ≤ most-pages) × (length (now wl) ≡ slot-size * m) × (m ≤ most-slots) × LowRows rows ⌝ }
+    requires { ⌜ HasAreas n m (now wp) (now wl) × LowRows rows ⌝ }
     ensures { λ u.
         ⌜ ((s : model.Run) → Shows n m (now (wp .entry)) (now (wl .entry)) t s → rows ≡ eight-rows (map batches.row-of (batches.open-batches (s .log)))
         → marked ≡ eight false (marks-of (batches.open-batches (s .log))) → Holds (s .log) (batches.open-batches (s .log)) → AllFit 1 (s .log)

@@ -13,11 +13,12 @@ use def_layout::PAGE_SIZE;
 use def_layout::ROOM;
 ghost use mathlib.Core.Path.{_≡_};
 ghost use mathlib.Core.Bool.{true};
-ghost use Prim.Native.Nat.{ℕ, _+_, _*_, _/_, _%_, _≤_, _<_};
+ghost use Prim.Native.Nat.{ℕ, _+_, _/_, _%_, _≤_, _<_};
 ghost use lib.ListN.{length};
 ghost use Rattle.def_layout.specs.Sizes.{page-size, most-pages};
 ghost use Rattle.def_layout.specs.Pages.{at, zero-page, layout};
 ghost use Rattle.def_layout.specs.PageBytes.{page-fields, page-front, page-bytes, read-block};
+ghost use Rattle.law_bytes.specs.AreaSizes.{HasPages};
 ghost use Rattle.law_bytes.specs.Words.{part};
 ghost use Rattle.law_bytes.specs.Patch.{patch};
 ghost use Rattle.law_bytes.specs.EntryBytes.{used};
@@ -142,7 +143,7 @@ fn zero_page() -> Page
 
 // Page p of an area of n pages; past the last one the page that was never used.
 pub fn nth_page(pages: &[u8], n: usize, p: usize) -> Page
-    requires { ⌜ (length (now pages) ≡ page-size * n) × (n ≤ most-pages) ⌝ }
+    requires { ⌜ HasPages n (now pages) ⌝ }
     ensures { λ r. ⌜ typed r ≡ at (pages-of n (now (pages .entry))) p ⌝ }
 {
     if p < n {

@@ -9,9 +9,9 @@ use Rattle.io.specs.Counts.{Counts}
 use Rattle.def_base.specs.Tests.{eq-true, neq-false}
 use Rattle.def_layout.specs.declared.Desk.{Desk}
 use Rattle.def_layout.specs.Desks.{empty-desk}
-use Rattle.def_model.specs.OnBytes.{Lent, call, format}
+use Rattle.def_model.specs.OnBytes.{Lent, format}
 use Rattle.call_reply.specs.declared.Reply.{Reply}
-use Rattle.call_reply.specs.Replies.{Replies}
+use Rattle.call_reply.specs.Replies.{RepliesWhole}
 use Rattle.face_command.specs.declared.Line.{Line}
 use Rattle.face_command.specs.declared.Command.{Command}
 use Rattle.face_command.specs.Lines.{start, step}
@@ -40,7 +40,7 @@ pub counted : (n : ℕ) (b : List ℕ) → n ≤ length b → Counts n b
 counted n b h = (h, sym (length-take-le n b h))
 
 -- A new register.
-pub new-heard : (l after : Lent) (d : Desk) (y : Reply) (r : Heard) → d ≡ empty-desk → Replies format l d (length (call format l d .stores)) y after → r .line ≡ start → r .desk ≡ y .desk
+pub new-heard : (l after : Lent) (d : Desk) (y : Reply) (r : Heard) → d ≡ empty-desk → RepliesWhole format l d y after → r .line ≡ start → r .desk ≡ y .desk
     → stands after r ≡ listening (formatted l) start
 unfolding formatted
 new-heard l after d y r e m el ed =

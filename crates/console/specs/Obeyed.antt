@@ -11,7 +11,7 @@ use Rattle.def_model.specs.declared.Answer.the-variants.{Done}
 use Rattle.def_model.specs.OnBytes.{Lent, Call, call, begin, insert, delete, fetch, next, commit, abort, write-out, restart, lent-after}
 use Rattle.area_lengths.specs.Lent.{lent}
 use Rattle.call_reply.specs.declared.Reply.{Reply}
-use Rattle.call_reply.specs.Replies.{Replies}
+use Rattle.call_reply.specs.Replies.{RepliesWhole}
 use Rattle.face_command.specs.declared.Command.{Command}
 use Rattle.face_command.specs.declared.Command.the-variants.{Begin, Insert, Delete, Fetch, Next, Commit, Abort, WriteOut, Cut, Other}
 
@@ -64,11 +64,10 @@ Obeyed c l d r after = turn (r .answer) (world after (r .desk)) ≡ obey c (worl
 pub obeyed-as : {c c′ : Command} (l : Lent) (d : Desk) (r : Reply) (after : Lent) → c ≡ c′ → Obeyed c′ l d r after → Obeyed c l d r after
 obeyed-as l d r after e o = subst (λ (x : Command). Obeyed x l d r after) (sym e) o
 
-pub replied : {c : Call} {l : Lent} {d : Desk} {r : Reply} {after : Lent} → Replies c l d (length (call c l d .stores)) r after
-    → turn (r .answer) (world after (r .desk)) ≡ made c (world l d)
+pub replied : {c : Call} {l : Lent} {d : Desk} {r : Reply} {after : Lent} → RepliesWhole c l d r after → turn (r .answer) (world after (r .desk)) ≡ made c (world l d)
 unfolding made
 replied h = rw (h .answer, h .desk, h .areas)
 
 pub restarted : (wp wl sp sl wp′ wl′ : List ℕ) (d d′ : Desk) (r : Reply) (after : Lent) → wp′ ≡ zeros (length wp) → wl′ ≡ zeros (length wl) → d′ ≡ empty-desk
-    → Replies restart (lent wp′ sp wl′ sl) d′ (length (call restart (lent wp′ sp wl′ sl) d′ .stores)) r after → Obeyed Cut (lent wp sp wl sl) d r after
+    → RepliesWhole restart (lent wp′ sp wl′ sl) d′ r after → Obeyed Cut (lent wp sp wl sl) d r after
 restarted wp wl sp sl wp′ wl′ d d′ r after ep el ed m = replied m ∙ rw (ep, el, ed)

@@ -18,7 +18,7 @@ ghost use Prim.Native.Nat.{_+_, _*_, _≤_};
 ghost use lib.ListN.{length};
 ghost use Rattle.io.specs.Counts.{Counts};
 ghost use Rattle.def_layout.specs.Desks.{empty-desk};
-ghost use Rattle.area_lengths.specs.Lent.{lent};
+ghost use Rattle.area_lengths.specs.Lent.{at-entry, at-exit};
 ghost use Rattle.face_command.specs.declared.Command.the-variants.{Cut};
 ghost use Rattle.face_command.specs.Lines.{start};
 ghost use Rattle.console.specs.Obeyed.{Obeyed};
@@ -40,7 +40,7 @@ struct Heard {
 }
 
 fn cut_and_restart(wp: &mut [u8], sp: &mut [u8], wl: &mut [u8], sl: &mut [u8]) -> Reply
-    ensures { λ r. ⌜ Obeyed Cut (lent (now (wp .entry)) (now (sp .entry)) (now (wl .entry)) (now (sl .entry))) empty-desk r (lent (now (wp .exit)) (now (sp .exit)) (now (wl .exit)) (now (sl .exit))) ⌝ }
+    ensures { λ r. ⌜ Obeyed Cut (at-entry wp sp wl sl) empty-desk r (at-exit wp sp wl sl) ⌝ }
 {
     zero(wp);
     zero(wl);
@@ -49,7 +49,7 @@ fn cut_and_restart(wp: &mut [u8], sp: &mut [u8], wl: &mut [u8], sl: &mut [u8]) -
 
 // A command carried out.
 fn obey(wp: &mut [u8], sp: &mut [u8], wl: &mut [u8], sl: &mut [u8], d: Desk, c: Command) -> Reply
-    ensures { λ r. ⌜ Obeyed c (lent (now (wp .entry)) (now (sp .entry)) (now (wl .entry)) (now (sl .entry))) d r (lent (now (wp .exit)) (now (sp .exit)) (now (wl .exit)) (now (sl .exit))) ⌝ }
+    ensures { λ r. ⌜ Obeyed c (at-entry wp sp wl sl) d r (at-exit wp sp wl sl) ⌝ }
 {
     match c {
         Command::Begin => call_register::begin(wp, sp, wl, sl, d),
@@ -87,7 +87,7 @@ fn hear_line(
     out: &mut [u8],
 ) -> Heard
     requires { ⌜ h .said + 35 ≤ length (now out) ⌝ }
-    ensures { λ r. ⌜ (r .said ≤ h .said + 35) × Hears (hear-line (stands (lent (now (wp .entry)) (now (sp .entry)) (now (wl .entry)) (now (sl .entry))) h)) (lent (now (wp .exit)) (now (sp .exit)) (now (wl .exit)) (now (sl .exit))) r (now (out .entry)) (h .said) (now (out .exit)) ⌝ }
+    ensures { λ r. ⌜ (r .said ≤ h .said + 35) × Hears (hear-line (stands (at-entry wp sp wl sl) h)) (at-exit wp sp wl sl) r (now (out .entry)) (h .said) (now (out .exit)) ⌝ }
 {
     let l = h.line;
     let d = h.desk;
@@ -115,7 +115,7 @@ fn hear_byte(
     out: &mut [u8],
 ) -> Heard
     requires { ⌜ h .said + 35 ≤ length (now out) ⌝ }
-    ensures { λ r. ⌜ (r .said ≤ h .said + 35) × Hears (hear-byte x (stands (lent (now (wp .entry)) (now (sp .entry)) (now (wl .entry)) (now (sl .entry))) h)) (lent (now (wp .exit)) (now (sp .exit)) (now (wl .exit)) (now (sl .exit))) r (now (out .entry)) (h .said) (now (out .exit)) ⌝ }
+    ensures { λ r. ⌜ (r .said ≤ h .said + 35) × Hears (hear-byte x (stands (at-entry wp sp wl sl) h)) (at-exit wp sp wl sl) r (now (out .entry)) (h .said) (now (out .exit)) ⌝ }
 {
     if x == b'\n' {
         return hear_line(wp, sp, wl, sl, h, out);
@@ -141,7 +141,7 @@ fn hear_bytes(
     out: &mut [u8],
 ) -> Heard
     requires { ⌜ 35 * length (now text) ≤ length (now out) ⌝ }
-    ensures { λ r. ⌜ Counts (r .said) (now (out .exit)) × Hears (hear (now (text .entry)) (stands (lent (now (wp .entry)) (now (sp .entry)) (now (wl .entry)) (now (sl .entry))) h)) (lent (now (wp .exit)) (now (sp .exit)) (now (wl .exit)) (now (sl .exit))) r (now (out .entry)) 0 (now (out .exit)) ⌝ }
+    ensures { λ r. ⌜ Counts (r .said) (now (out .exit)) × Hears (hear (now (text .entry)) (stands (at-entry wp sp wl sl) h)) (at-exit wp sp wl sl) r (now (out .entry)) 0 (now (out .exit)) ⌝ }
 {
     let l = h.line;
     let d = h.desk;
@@ -167,7 +167,7 @@ fn end(
     out: &mut [u8],
 ) -> Heard
     requires { ⌜ 35 ≤ length (now out) ⌝ }
-    ensures { λ r. ⌜ Counts (r .said) (now (out .exit)) × Hears (hear-end (stands (lent (now (wp .entry)) (now (sp .entry)) (now (wl .entry)) (now (sl .entry))) h)) (lent (now (wp .exit)) (now (sp .exit)) (now (wl .exit)) (now (sl .exit))) r (now (out .entry)) 0 (now (out .exit)) ⌝ }
+    ensures { λ r. ⌜ Counts (r .said) (now (out .exit)) × Hears (hear-end (stands (at-entry wp sp wl sl) h)) (at-exit wp sp wl sl) r (now (out .entry)) 0 (now (out .exit)) ⌝ }
 {
     let l = h.line;
     let d = h.desk;
@@ -185,7 +185,7 @@ fn end(
 
 // A new register, and nothing read yet.
 fn begun(wp: &mut [u8], sp: &mut [u8], wl: &mut [u8], sl: &mut [u8]) -> Heard
-    ensures { λ r. ⌜ stands (lent (now (wp .exit)) (now (sp .exit)) (now (wl .exit)) (now (sl .exit))) r ≡ listening (formatted (lent (now (wp .entry)) (now (sp .entry)) (now (wl .entry)) (now (sl .entry)))) start ⌝ }
+    ensures { λ r. ⌜ stands (at-exit wp sp wl sl) r ≡ listening (formatted (at-entry wp sp wl sl)) start ⌝ }
 {
     let y = call_register::format(wp, sp, wl, sl, idle_desk(0));
     let d = y.desk;
@@ -207,7 +207,7 @@ fn hear_read(
     text: &[u8],
 ) -> Heard
     requires { ⌜ length (now text) ≤ 512 ⌝ }
-    ensures { λ r. ⌜ stands (lent (now (wp .exit)) (now (sp .exit)) (now (wl .exit)) (now (sl .exit))) r ≡ hear (now (text .entry)) (stands (lent (now (wp .entry)) (now (sp .entry)) (now (wl .entry)) (now (sl .entry))) h) .left ⌝ }
+    ensures { λ r. ⌜ stands (at-exit wp sp wl sl) r ≡ hear (now (text .entry)) (stands (at-entry wp sp wl sl) h) .left ⌝ }
 {
     let mut out = [0u8; PRINTED];
     let y = hear_bytes(wp, sp, wl, sl, h, text, &mut out);

@@ -18,7 +18,7 @@ use Rattle.law_bytes.specs.Words.{Bytes, put32-length}
 use Rattle.law_bytes.specs.Patch.{patch, then-patch, patch-whole}
 use Rattle.law_c.specs.RefusedByC.{empties, wrong-desk, desk-emptied, desk-kept, values-zeroed}
 use Rattle.call_reply.specs.declared.Reply.{Reply}
-use Rattle.call_reply.specs.Replies.{Replies}
+use Rattle.call_reply.specs.Replies.{RepliesWhole}
 use Rattle.donzhikar.specs.declared.Request.{Request}
 
 -- ---- the lengths of desk and values
@@ -76,7 +76,7 @@ refuses e desk values desk′ values′ f g c l p s = rw (c-call, s, f c p, g)
 -- What a reply makes of the desk and the values.
 abbrev pub Gives : Reply → ℕ → List ℕ → List ℕ → Type 0
 Gives y r desk values =
-    (c : Call) (l after : Lent) (d : Desk) → Replies c l d (length (call c l d .stores)) y after → returned r desk values after ≡ answered (call c l d) l
+    (c : Call) (l after : Lent) (d : Desk) → RepliesWhole c l d y after → returned r desk values after ≡ answered (call c l d) l
 
 -- The values' bytes, as two numbers are written.
 pub values-written : (b s t : List ℕ) (a : Answer) (x y : ℕ) → length b ≡ 8 → x ≡ answer-numbers a .first → y ≡ answer-numbers a .second

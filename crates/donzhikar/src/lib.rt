@@ -17,7 +17,7 @@ ghost use mathlib.Core.Path.{_≡_};
 ghost use lib.ListN.{length};
 ghost use Rattle.def_layout.specs.Sizes.{desk-size};
 ghost use Rattle.def_model.specs.OnBytes as calls;
-ghost use Rattle.area_lengths.specs.Lent.{lent};
+ghost use Rattle.area_lengths.specs.Lent.{at-entry, at-exit};
 ghost use Rattle.def_c.specs.FromC.{returned, refused-values, c-call};
 ghost use Rattle.donzhikar.specs.Returned.{Asks, DeskLeft, Refuses, Gives};
 
@@ -102,7 +102,7 @@ pub extern "C" fn donzhikar_format(
     desk: &mut [u8],
     values: &mut [u8],
 ) -> u32
-    ensures { λ r. ⌜ returned r (now (desk .exit)) (now (values .exit)) (lent (now (wp .exit)) (now (sp .exit)) (now (wl .exit)) (now (sl .exit))) ≡ c-call calls.format (lent (now (wp .entry)) (now (sp .entry)) (now (wl .entry)) (now (sl .entry))) (now (desk .entry)) (now (values .entry)) ⌝ }
+    ensures { λ r. ⌜ returned r (now (desk .exit)) (now (values .exit)) (at-exit wp sp wl sl) ≡ c-call calls.format (at-entry wp sp wl sl) (now (desk .entry)) (now (values .entry)) ⌝ }
 {
     let q = asked(desk, values);
     if q.refused {
@@ -123,7 +123,7 @@ pub extern "C" fn donzhikar_begin(
     desk: &mut [u8],
     values: &mut [u8],
 ) -> u32
-    ensures { λ r. ⌜ returned r (now (desk .exit)) (now (values .exit)) (lent (now (wp .entry)) (now (sp .entry)) (now (wl .exit)) (now (sl .entry))) ≡ c-call calls.begin (lent (now (wp .entry)) (now (sp .entry)) (now (wl .entry)) (now (sl .entry))) (now (desk .entry)) (now (values .entry)) ⌝ }
+    ensures { λ r. ⌜ returned r (now (desk .exit)) (now (values .exit)) (at-exit wp sp wl sl) ≡ c-call calls.begin (at-entry wp sp wl sl) (now (desk .entry)) (now (values .entry)) ⌝ }
 {
     let q = asked(desk, values);
     if q.refused {
@@ -146,7 +146,7 @@ pub extern "C" fn donzhikar_fetch(
     batch: u32,
     key: u32,
 ) -> u32
-    ensures { λ r. ⌜ returned r (now (desk .exit)) (now (values .exit)) (lent (now (wp .entry)) (now (sp .entry)) (now (wl .entry)) (now (sl .entry))) ≡ c-call (calls.fetch batch key) (lent (now (wp .entry)) (now (sp .entry)) (now (wl .entry)) (now (sl .entry))) (now (desk .entry)) (now (values .entry)) ⌝ }
+    ensures { λ r. ⌜ returned r (now (desk .exit)) (now (values .exit)) (at-exit wp sp wl sl) ≡ c-call (calls.fetch batch key) (at-entry wp sp wl sl) (now (desk .entry)) (now (values .entry)) ⌝ }
 {
     let q = asked(desk, values);
     if q.refused {
@@ -169,7 +169,7 @@ pub extern "C" fn donzhikar_next(
     batch: u32,
     key: u32,
 ) -> u32
-    ensures { λ r. ⌜ returned r (now (desk .exit)) (now (values .exit)) (lent (now (wp .entry)) (now (sp .entry)) (now (wl .entry)) (now (sl .entry))) ≡ c-call (calls.next batch key) (lent (now (wp .entry)) (now (sp .entry)) (now (wl .entry)) (now (sl .entry))) (now (desk .entry)) (now (values .entry)) ⌝ }
+    ensures { λ r. ⌜ returned r (now (desk .exit)) (now (values .exit)) (at-exit wp sp wl sl) ≡ c-call (calls.next batch key) (at-entry wp sp wl sl) (now (desk .entry)) (now (values .entry)) ⌝ }
 {
     let q = asked(desk, values);
     if q.refused {
@@ -193,7 +193,7 @@ pub extern "C" fn donzhikar_insert(
     key: u32,
     value: u32,
 ) -> u32
-    ensures { λ r. ⌜ returned r (now (desk .exit)) (now (values .exit)) (lent (now (wp .exit)) (now (sp .entry)) (now (wl .exit)) (now (sl .entry))) ≡ c-call (calls.insert batch key value) (lent (now (wp .entry)) (now (sp .entry)) (now (wl .entry)) (now (sl .entry))) (now (desk .entry)) (now (values .entry)) ⌝ }
+    ensures { λ r. ⌜ returned r (now (desk .exit)) (now (values .exit)) (at-exit wp sp wl sl) ≡ c-call (calls.insert batch key value) (at-entry wp sp wl sl) (now (desk .entry)) (now (values .entry)) ⌝ }
 {
     let q = asked(desk, values);
     if q.refused {
@@ -216,7 +216,7 @@ pub extern "C" fn donzhikar_delete(
     batch: u32,
     key: u32,
 ) -> u32
-    ensures { λ r. ⌜ returned r (now (desk .exit)) (now (values .exit)) (lent (now (wp .exit)) (now (sp .entry)) (now (wl .exit)) (now (sl .entry))) ≡ c-call (calls.delete batch key) (lent (now (wp .entry)) (now (sp .entry)) (now (wl .entry)) (now (sl .entry))) (now (desk .entry)) (now (values .entry)) ⌝ }
+    ensures { λ r. ⌜ returned r (now (desk .exit)) (now (values .exit)) (at-exit wp sp wl sl) ≡ c-call (calls.delete batch key) (at-entry wp sp wl sl) (now (desk .entry)) (now (values .entry)) ⌝ }
 {
     let q = asked(desk, values);
     if q.refused {
@@ -238,7 +238,7 @@ pub extern "C" fn donzhikar_commit(
     values: &mut [u8],
     batch: u32,
 ) -> u32
-    ensures { λ r. ⌜ returned r (now (desk .exit)) (now (values .exit)) (lent (now (wp .entry)) (now (sp .entry)) (now (wl .exit)) (now (sl .exit))) ≡ c-call (calls.commit batch) (lent (now (wp .entry)) (now (sp .entry)) (now (wl .entry)) (now (sl .entry))) (now (desk .entry)) (now (values .entry)) ⌝ }
+    ensures { λ r. ⌜ returned r (now (desk .exit)) (now (values .exit)) (at-exit wp sp wl sl) ≡ c-call (calls.commit batch) (at-entry wp sp wl sl) (now (desk .entry)) (now (values .entry)) ⌝ }
 {
     let q = asked(desk, values);
     if q.refused {
@@ -260,7 +260,7 @@ pub extern "C" fn donzhikar_abort(
     values: &mut [u8],
     batch: u32,
 ) -> u32
-    ensures { λ r. ⌜ returned r (now (desk .exit)) (now (values .exit)) (lent (now (wp .exit)) (now (sp .entry)) (now (wl .exit)) (now (sl .entry))) ≡ c-call (calls.abort batch) (lent (now (wp .entry)) (now (sp .entry)) (now (wl .entry)) (now (sl .entry))) (now (desk .entry)) (now (values .entry)) ⌝ }
+    ensures { λ r. ⌜ returned r (now (desk .exit)) (now (values .exit)) (at-exit wp sp wl sl) ≡ c-call (calls.abort batch) (at-entry wp sp wl sl) (now (desk .entry)) (now (values .entry)) ⌝ }
 {
     let q = asked(desk, values);
     if q.refused {
@@ -282,7 +282,7 @@ pub extern "C" fn donzhikar_write_out(
     values: &mut [u8],
     page: u32,
 ) -> u32
-    ensures { λ r. ⌜ returned r (now (desk .exit)) (now (values .exit)) (lent (now (wp .entry)) (now (sp .exit)) (now (wl .entry)) (now (sl .exit))) ≡ c-call (calls.write-out page) (lent (now (wp .entry)) (now (sp .entry)) (now (wl .entry)) (now (sl .entry))) (now (desk .entry)) (now (values .entry)) ⌝ }
+    ensures { λ r. ⌜ returned r (now (desk .exit)) (now (values .exit)) (at-exit wp sp wl sl) ≡ c-call (calls.write-out page) (at-entry wp sp wl sl) (now (desk .entry)) (now (values .entry)) ⌝ }
 {
     let q = asked(desk, values);
     if q.refused {
@@ -303,7 +303,7 @@ pub extern "C" fn donzhikar_restart(
     desk: &mut [u8],
     values: &mut [u8],
 ) -> u32
-    ensures { λ r. ⌜ returned r (now (desk .exit)) (now (values .exit)) (lent (now (wp .exit)) (now (sp .entry)) (now (wl .exit)) (now (sl .exit))) ≡ c-call calls.restart (lent (now (wp .entry)) (now (sp .entry)) (now (wl .entry)) (now (sl .entry))) (now (desk .entry)) (now (values .entry)) ⌝ }
+    ensures { λ r. ⌜ returned r (now (desk .exit)) (now (values .exit)) (at-exit wp sp wl sl) ≡ c-call calls.restart (at-entry wp sp wl sl) (now (desk .entry)) (now (values .entry)) ⌝ }
 {
     let q = asked(desk, values);
     if q.refused {

@@ -17,3 +17,5 @@ pub mod PageBytes
 pub mod PageAreas
 pub mod RecordBytes
 pub mod LogAreas
+pub mod AreaSizes
+pub mod Slices

@@ -8,11 +8,12 @@ use def_layout::Row;
 use log_pending::Line;
 use log_pending::line_at;
 ghost use mathlib.Core.Path.{_≡_};
-ghost use mathlib.Core.Bool.{true, false};
-ghost use Prim.Native.Nat.{_+_, _*_, _≤_, _<_};
-ghost use lib.ListN.{length, set};
-ghost use Rattle.def_layout.specs.Sizes.{slot-size, most-slots};
+ghost use mathlib.Core.Bool.{false};
+ghost use Prim.Native.Nat.{_≤_, _<_};
+ghost use lib.ListN.{set};
+ghost use Rattle.def_layout.specs.Sizes.{most-slots};
 ghost use Rattle.def_layout.specs.Numbers.{tab};
+ghost use Rattle.law_bytes.specs.AreaSizes.{HasSlots};
 ghost use Rattle.law_bytes.specs.Eights.{closing};
 ghost use Rattle.law_bytes.specs.DeskRows.{without, LowRows};
 ghost use Rattle.log_chain.specs.Shown.{right-with};
@@ -232,7 +233,7 @@ fn undoes(t: Told, line: Line) -> bool
 
 // 4 and 5: "a 4 or 5 undoes its newest pending update".
 fn undone(log: &[u8], m: usize, rows: [Row; 8], marked: [bool; 8], t: Told) -> Judged
-    requires { ⌜ (length (now log) ≡ slot-size * m) × (m ≤ most-slots) × (4 ≤ t .kind) × (t .kind ≤ 5) ⌝ }
+    requires { ⌜ HasSlots m (now log) × (4 ≤ t .kind) × (t .kind ≤ 5) ⌝ }
     ensures { λ r. ⌜ StepsIn m (now (log .entry)) rows marked t r ⌝ }
 {
     let i = open_place(rows, t.batch);
@@ -269,7 +270,7 @@ fn passed(rows: [Row; 8], marked: [bool; 8]) -> Judged
 
 // One record of the batch chain.
 pub fn step(log: &[u8], m: usize, rows: [Row; 8], marked: [bool; 8], t: Told) -> Judged
-    requires { ⌜ (length (now log) ≡ slot-size * m) × (m ≤ most-slots) × (0 < t .kind) × (t .kind < 16) × LowRows rows ⌝ }
+    requires { ⌜ HasSlots m (now log) × (0 < t .kind) × (t .kind < 16) × LowRows rows ⌝ }
     ensures { λ r. ⌜ StepsIn m (now (log .entry)) rows marked t r ⌝ }
 {
     let kind = t.kind;

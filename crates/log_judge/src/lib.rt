@@ -18,12 +18,13 @@ use record_check::pages_ok;
 use record_check::row_ok;
 ghost use mathlib.Core.Path.{_≡_};
 ghost use mathlib.Core.Bool.{true, false};
-ghost use Prim.Native.Nat.{ℕ, suc, _+_, _*_, _≤_, _<_};
+ghost use Prim.Native.Nat.{ℕ, suc, _*_, _≤_, _<_};
 ghost use lib.ListN.{length, drop};
 ghost use Rattle.def_layout.specs.Sizes.{slot-size, most-slots};
 ghost use Rattle.def_base.specs.Tests.{every};
 ghost use Rattle.def_layout.specs.RecordBytes.{read-slot};
 ghost use Rattle.def_model.specs.Log.{is-empty};
+ghost use Rattle.law_bytes.specs.AreaSizes.{HasSlots};
 ghost use Rattle.law_bytes.specs.Words.{part};
 ghost use Rattle.law_bytes.specs.LogAreas.{slots-of};
 ghost use Rattle.law_bytes.specs.DeskRows.{LowRows};
@@ -136,7 +137,7 @@ fn is_batch(b: &[u8], number: u32) -> bool
 
 // What a begin or a commit at slot i tells the batch chain; kind 0 where the slot holds neither.
 fn batch_at(log: &[u8], m: usize, n: usize, i: usize) -> Told
-    requires { ⌜ (length (now log) ≡ slot-size * m) × (m ≤ most-slots) × (i < m) ⌝ }
+    requires { ⌜ HasSlots m (now log) × (i < m) ⌝ }
     ensures { λ t. ⌜ ((t .kind ≡ 0 → ⊥) → TellsBatch n m (now (log .entry)) i t) ⌝ }
 {
     let b = &log[SLOT_SIZE * i..SLOT_SIZE * i + SLOT_SIZE];
@@ -151,7 +152,7 @@ fn batch_at(log: &[u8], m: usize, n: usize, i: usize) -> Told
 
 // Slot i of a register of n pages: "a slot breaks its row, number or batch chain, or names an A, B or C not below the page count".
 fn judge_long(log: &[u8], m: usize, n: usize, i: usize, rows: [Row; 8], marked: [bool; 8]) -> Judged
-    requires { ⌜ (length (now log) ≡ slot-size * m) × (m ≤ most-slots) × (i < m) × LowRows rows ⌝ }
+    requires { ⌜ HasSlots m (now log) × (i < m) × LowRows rows ⌝ }
     ensures { λ r. ⌜ Turns n m (now (log .entry)) i rows marked r ⌝ }
 {
     let s = read_at(log, SLOT_SIZE * i);
@@ -189,7 +190,7 @@ fn judge_long(log: &[u8], m: usize, n: usize, i: usize, rows: [Row; 8], marked: 
 
 // The same: a begin or a commit by its words, all else the long way.
 fn judge_slot(log: &[u8], m: usize, n: usize, i: usize, rows: [Row; 8], marked: [bool; 8]) -> Judged
-    requires { ⌜ (length (now log) ≡ slot-size * m) × (m ≤ most-slots) × (i < m) × LowRows rows ⌝ }
+    requires { ⌜ HasSlots m (now log) × (i < m) × LowRows rows ⌝ }
     ensures { λ r. ⌜ Turns n m (now (log .entry)) i rows marked r ⌝ }
 {
     let t = batch_at(log, m, n, i);
@@ -232,7 +233,7 @@ fn is_update(b: &[u8], own: u32, n: usize) -> bool
 
 // What an update at slot i tells the batch chain; kind 0 where the slot holds none.
 fn update_at(log: &[u8], m: usize, n: usize, i: usize) -> Told
-    requires { ⌜ (length (now log) ≡ slot-size * m) × (m ≤ most-slots) × (i < m) ⌝ }
+    requires { ⌜ HasSlots m (now log) × (i < m) ⌝ }
     ensures { λ t. ⌜ ((t .kind ≡ 0 → ⊥) → TellsUpdate n m (now (log .entry)) i t) ⌝ }
 {
     let b = &log[SLOT_SIZE * i..SLOT_SIZE * i + SLOT_SIZE];
@@ -243,7 +244,7 @@ fn update_at(log: &[u8], m: usize, n: usize, i: usize) -> Told
 }
 
 fn empty_slot(log: &[u8], m: usize, i: usize) -> bool
-    requires { ⌜ (length (now log) ≡ slot-size * m) × (m ≤ most-slots) × (i < m) ⌝ }
+    requires { ⌜ HasSlots m (now log) × (i < m) ⌝ }
     ensures { λ r. ⌜ r ≡ is-empty (read-slot (part (now (log .entry)) (slot-size * i) slot-size)) ⌝ }
 {
     is_zero(&log[SLOT_SIZE * i..SLOT_SIZE * i + SLOT_SIZE])
@@ -251,7 +252,7 @@ fn empty_slot(log: &[u8], m: usize, i: usize) -> bool
 
 // The records end before slot i: no full slot follows an empty one.
 fn finished(log: &[u8], m: usize, i: usize, rows: [Row; 8], marked: [bool; 8]) -> Said
-    requires { ⌜ (length (now log) ≡ slot-size * m) × (m ≤ most-slots) × (i ≤ m) ⌝ }
+    requires { ⌜ HasSlots m (now log) × (i ≤ m) ⌝ }
     ensures { λ r. ⌜ (r .ok ≡ every is-empty (drop i (slots-of m (now (log .entry))))) × (r .rows ≡ rows) × (r .marked ≡ marked) × (r .logged ≡ i) ⌝ }
 {
     let ok = is_zero(&log[SLOT_SIZE * i..SLOT_SIZE * m]);
@@ -266,7 +267,7 @@ fn finished(log: &[u8], m: usize, i: usize, rows: [Row; 8], marked: [bool; 8]) -
 // Refusal 4: the log of m slots of a register of n pages, slot by slot; and what it says of its open batches.
 // Most slots hold updates, which change one row: they are judged here, with no copy of the rows.
 pub fn judge_log(log: &[u8], m: usize, n: usize) -> Said
-    requires { ⌜ (length (now log) ≡ slot-size * m) × (m ≤ most-slots) ⌝ }
+    requires { ⌜ HasSlots m (now log) ⌝ }
     ensures { λ r. ⌜ Judgement n (slots-of m (now (log .entry))) r ⌝ }
 {
     let mut rows = no_rows();

@@ -1,10 +1,7 @@
 // The pending updates of a log's open batches, found through the log itself: each names a record from which the one below it is found.
 use codec_bytes::get32;
 use def_layout::SLOT_SIZE;
-ghost use mathlib.Core.Path.{_≡_};
-ghost use Prim.Native.Nat.{_*_, _≤_};
-ghost use lib.ListN.{length};
-ghost use Rattle.def_layout.specs.Sizes.{slot-size, most-slots};
+ghost use Rattle.law_bytes.specs.AreaSizes.{HasSlots};
 ghost use Rattle.log_pending.specs.Reading.{TellsAfter};
 ghost use Rattle.log_pending.specs.Lines.{TellsLine};
 
@@ -19,7 +16,7 @@ pub struct Line {
 
 // What was pending in a batch, newest, after its record p: an update itself, what an undo says is left, or nothing.
 fn pending_after(log: &[u8], m: usize, p: u32) -> u32
-    requires { ⌜ (length (now log) ≡ slot-size * m) × (m ≤ most-slots) ⌝ }
+    requires { ⌜ HasSlots m (now log) ⌝ }
     ensures { λ r. ⌜ TellsAfter m (now (log .entry)) p r ⌝ }
 {
     if p == 0 {
@@ -39,7 +36,7 @@ fn pending_after(log: &[u8], m: usize, p: u32) -> u32
 
 // The pending update that is record `number`. Of a number that is no slot's there is none.
 pub fn line_at(log: &[u8], m: usize, number: u32) -> Line
-    requires { ⌜ (length (now log) ≡ slot-size * m) × (m ≤ most-slots) ⌝ }
+    requires { ⌜ HasSlots m (now log) ⌝ }
     ensures { λ r. ⌜ TellsLine m (now (log .entry)) number r ⌝ }
 {
     let none = Line {

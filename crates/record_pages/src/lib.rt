@@ -7,12 +7,12 @@ use def_layout::PAGE_SIZE;
 use record_apply::Record;
 use record_apply::apply;
 use record_apply::parts;
-ghost use mathlib.Core.Path.{_≡_};
 ghost use mathlib.Core.List.{List};
-ghost use Prim.Native.Nat.{_*_, _≤_};
-ghost use lib.ListN.{length, set};
-ghost use Rattle.def_layout.specs.Sizes.{page-size, most-pages, room};
+ghost use Prim.Native.Nat.{_≤_};
+ghost use lib.ListN.{set};
+ghost use Rattle.def_layout.specs.Sizes.{room};
 ghost use Rattle.def_layout.specs.Pages as layout;
+ghost use Rattle.law_bytes.specs.AreaSizes.{HasPages};
 ghost use Rattle.codec_page.specs.Typed.{typed};
 ghost use Rattle.law_bytes.specs.PageBytes.{Fits};
 ghost use Rattle.def_base.specs.Tests.{pick};
@@ -23,7 +23,7 @@ ghost use Rattle.record_pages.specs.Records.{Keeps};
 
 // Page p of an area of n pages, its count that of its entries: the map has none, and no page more than 14.
 pub fn page_at(pages: &[u8], n: usize, p: u32) -> Page
-    requires { ⌜ (length (now pages) ≡ page-size * n) × (n ≤ most-pages) ⌝ }
+    requires { ⌜ HasPages n (now pages) ⌝ }
     ensures { λ x. ⌜ (x .count ≤ room) × ((xs : List layout.Page) → Pages n (now (pages .entry)) xs → Reads x (layout.at xs p)) ⌝ }
 {
     let mut x = nth_page(pages, n, p as usize);
@@ -40,7 +40,7 @@ pub fn page_at(pages: &[u8], n: usize, p: u32) -> Page
 
 // Page p anew; past the last page there is nothing to write.
 pub fn put_page(pages: &mut [u8], n: usize, p: u32, x: Page)
-    requires { ⌜ (length (now pages) ≡ page-size * n) × (n ≤ most-pages) ⌝ }
+    requires { ⌜ HasPages n (now pages) ⌝ }
     ensures { λ _. ⌜ ((xs : List layout.Page) → Pages n (now (pages .entry)) xs → Fits (typed x) → Pages n (now (pages .exit)) (set xs p (typed x))) ⌝ }
 {
     let q = p as usize;
@@ -51,7 +51,7 @@ pub fn put_page(pages: &mut [u8], n: usize, p: u32, x: Page)
 
 // Record r, number k, at page p, where the page's number is lower.
 fn redo_at(pages: &mut [u8], n: usize, r: Record, k: u32, p: u32)
-    requires { ⌜ (length (now pages) ≡ page-size * n) × (n ≤ most-pages) × (r .count ≤ room) ⌝ }
+    requires { ⌜ HasPages n (now pages) × (r .count ≤ room) ⌝ }
     ensures { λ _. ⌜ ((xs : List layout.Page) → Pages n (now (pages .entry)) xs → Keeps k (rec r) → Pages n (now (pages .exit)) (redo-page k (rec r) p xs)) ⌝ }
 {
     let x = page_at(pages, n, p);
@@ -63,7 +63,7 @@ fn redo_at(pages: &mut [u8], n: usize, r: Record, k: u32, p: u32)
 
 // The same where the record has that part.
 fn redo_part(pages: &mut [u8], n: usize, r: Record, k: u32, on: bool, p: u32)
-    requires { ⌜ (length (now pages) ≡ page-size * n) × (n ≤ most-pages) × (r .count ≤ room) ⌝ }
+    requires { ⌜ HasPages n (now pages) × (r .count ≤ room) ⌝ }
     ensures { λ _. ⌜ ((xs : List layout.Page) → Pages n (now (pages .entry)) xs → Keeps k (rec r) → Pages n (now (pages .exit)) (pick on (redo-page k (rec r) p xs) xs)) ⌝ }
 {
     if on {
@@ -73,7 +73,7 @@ fn redo_part(pages: &mut [u8], n: usize, r: Record, k: u32, on: bool, p: u32)
 
 // Record r, number k, at the pages that it changes: A, then B or C, then the map.
 pub fn redo_record(pages: &mut [u8], n: usize, r: Record, k: u32)
-    requires { ⌜ (length (now pages) ≡ page-size * n) × (n ≤ most-pages) × (r .count ≤ room) ⌝ }
+    requires { ⌜ HasPages n (now pages) × (r .count ≤ room) ⌝ }
     ensures { λ _. ⌜ ((xs : List layout.Page) → Pages n (now (pages .entry)) xs → Keeps k (rec r) → Pages n (now (pages .exit)) (redo-record k (rec r) xs)) ⌝ }
 {
     let bits = parts(r.kind);

@@ -19,9 +19,10 @@ ghost use mathlib.Core.Bool.{true, false};
 ghost use mathlib.Core.List.{List};
 ghost use Prim.Native.Nat.{_+_, _*_, _≤_, _<_};
 ghost use lib.ListN.{length};
-ghost use Rattle.def_layout.specs.Sizes.{page-size, slot-size, most-pages, most-slots, room};
+ghost use Rattle.def_layout.specs.Sizes.{room};
 ghost use Rattle.def_layout.specs.Pages as layout;
 ghost use Rattle.def_layout.specs.Records.{Rec};
+ghost use Rattle.law_bytes.specs.AreaSizes.{HasPages, HasSlots, HasAreas};
 ghost use Rattle.record_apply.specs.Pages.{rec};
 ghost use Rattle.record_pages.specs.Pages.{Pages};
 ghost use Rattle.record_pages.specs.Records.{Keeps};
@@ -67,7 +68,7 @@ fn at_most_room(count: u32) -> u32
 
 // The record in slot i of a log of m slots, the first slot being 0.
 pub fn record_at(log: &[u8], m: usize, i: usize) -> Record
-    requires { ⌜ (length (now log) ≡ slot-size * m) × (m ≤ most-slots) ⌝ }
+    requires { ⌜ HasSlots m (now log) ⌝ }
     ensures { λ r. ⌜ (r .count ≤ room) × Tells m (now (log .entry)) i r ⌝ }
 {
     if i >= m {
@@ -112,7 +113,7 @@ pub fn record_at(log: &[u8], m: usize, i: usize) -> Record
 
 // Record r, number k, at page p. A page whose number is lower must fit: one that does not is left as it is.
 pub fn redo_checked(pages: &mut [u8], n: usize, r: Record, k: u32, p: u32) -> Redone
-    requires { ⌜ (length (now pages) ≡ page-size * n) × (n ≤ most-pages) × (r .count ≤ room) ⌝ }
+    requires { ⌜ HasPages n (now pages) × (r .count ≤ room) ⌝ }
     ensures { λ d. ⌜ (d .count ≤ 1) × (d .fits ≡ false → now (pages .exit) ≡ now (pages .entry)) × ((xs : List layout.Page) → Pages n (now (pages .entry)) xs → Keeps k (rec r) → Answers n (now (pages .exit)) d (pair k (rec r) p xs)) ⌝ }
 {
     let x = page_at(pages, n, p);
@@ -146,7 +147,7 @@ fn redo_part(
     p: u32,
     done: Redone,
 ) -> Redone
-    requires { ⌜ (length (now pages) ≡ page-size * n) × (n ≤ most-pages) × (r .count ≤ room) × (done .count ≤ 3) ⌝ }
+    requires { ⌜ HasPages n (now pages) × (r .count ≤ room) × (done .count ≤ 3) ⌝ }
     ensures { λ d. ⌜ (d .count ≤ done .count + 1) × ((o : Outcome) → Answers n (now (pages .entry)) done o → Keeps k (rec r) → Answers n (now (pages .exit)) d (followed o (part on k (rec r) p (o .pages)))) ⌝ }
 {
     if !done.fits {
@@ -167,7 +168,7 @@ fn redo_part(
 
 // Record r, number k, at the pages that it changes, up to the first that does not fit: A, then B or C, then the map.
 pub fn redo_places(pages: &mut [u8], n: usize, r: Record, k: u32) -> Redone
-    requires { ⌜ (length (now pages) ≡ page-size * n) × (n ≤ most-pages) × (r .count ≤ room) ⌝ }
+    requires { ⌜ HasPages n (now pages) × (r .count ≤ room) ⌝ }
     ensures { λ d. ⌜ (d .count ≤ 4) × ((xs : List layout.Page) → Pages n (now (pages .entry)) xs → Keeps k (rec r) → Answers n (now (pages .exit)) d (one-record k (rec r) xs)) ⌝ }
 {
     let bits = parts(r.kind);
@@ -204,7 +205,7 @@ fn at_once(count: u32) -> AtOnce
 
 // An insert or delete, record number i + 1, at the bytes of its page: the page is newer, or it is one that the change starts from.
 fn redo_slide(pages: &mut [u8], n: usize, log: &[u8], m: usize, i: usize) -> AtOnce
-    requires { ⌜ (length (now pages) ≡ page-size * n) × (n ≤ most-pages) × (length (now log) ≡ slot-size * m) × (m ≤ most-slots) × (i < m) ⌝ }
+    requires { ⌜ HasAreas n m (now pages) (now log) × (i < m) ⌝ }
     ensures { λ d. ⌜ (d .count ≤ 1) × (d .done ≡ false → now (pages .exit) ≡ now (pages .entry)) × (d .done ≡ true → Done n m (now (pages .entry)) (now (log .entry)) i (now (pages .exit)) (d .count)) ⌝ }
 {
     let s = &log[SLOT_SIZE * i..SLOT_SIZE * i + SLOT_SIZE];
@@ -235,7 +236,7 @@ fn redo_slide(pages: &mut [u8], n: usize, log: &[u8], m: usize, i: usize) -> AtO
 
 // The record in slot i, number i + 1: at once where that can be, else the long way. A begin and a commit change no page.
 fn redo_slot(pages: &mut [u8], n: usize, log: &[u8], m: usize, i: usize) -> Redone
-    requires { ⌜ (length (now pages) ≡ page-size * n) × (n ≤ most-pages) × (length (now log) ≡ slot-size * m) × (m ≤ most-slots) × (i < m) ⌝ }
+    requires { ⌜ HasAreas n m (now pages) (now log) × (i < m) ⌝ }
     ensures { λ d. ⌜ (d .count ≤ 4) × Slot n m (now (pages .entry)) (now (log .entry)) i (now (pages .exit)) d ⌝ }
 {
     let s = &log[SLOT_SIZE * i..SLOT_SIZE * i + SLOT_SIZE];
@@ -265,7 +266,7 @@ fn redo_slot(pages: &mut [u8], n: usize, log: &[u8], m: usize, i: usize) -> Redo
 
 // The first `logged` records of a log, each at its pages, up to the first that does not fit.
 pub fn redo_log(pages: &mut [u8], log: &[u8], n: usize, m: usize, logged: u32) -> Redone
-    requires { ⌜ (length (now pages) ≡ page-size * n) × (n ≤ most-pages) × (length (now log) ≡ slot-size * m) × (m ≤ most-slots) × (logged ≤ m) ⌝ }
+    requires { ⌜ HasAreas n m (now pages) (now log) × (logged ≤ m) ⌝ }
     ensures { λ d. ⌜ (d .count ≤ 4 * logged) × ((xs : List layout.Page) (l : List Rec) → Pages n (now (pages .entry)) xs → Logged m (now (log .entry)) l → length l ≡ logged → Answers n (now (pages .exit)) d (whole 1 l xs)) ⌝ }
 {
     let mut count: u32 = 0;

@@ -11,9 +11,9 @@ use def_layout::Row;
 use def_layout::SLOT_SIZE;
 ghost use mathlib.Core.Path.{_≡_};
 ghost use mathlib.Core.List.{List};
-ghost use Prim.Native.Nat.{_+_, _-_, _*_, _%_, _≤_, _<_};
+ghost use Prim.Native.Nat.{_-_, _*_, _%_, _≤_, _<_};
 ghost use lib.ListN.{length, drop};
-ghost use Rattle.def_layout.specs.Sizes.{page-size, slot-size, most-pages, most-slots};
+ghost use Rattle.def_layout.specs.Sizes.{page-size, most-slots};
 ghost use Rattle.def_layout.specs.Desks.{same-row, same-rows, same-desk};
 ghost use Rattle.def_layout.specs.Numbers.{same-bytes, zeros};
 ghost use Rattle.def_layout.specs.PageBytes.{read-block};
@@ -22,6 +22,7 @@ ghost use Rattle.def_model.specs.Areas.{blocks-ok};
 ghost use Rattle.def_model.specs.Log.{log-area};
 ghost use Rattle.def_model.specs.Sound.{numbers-ok};
 ghost use Rattle.def_model.specs.TreeRules.{free-pages};
+ghost use Rattle.law_bytes.specs.AreaSizes.{HasPages, HasSlots};
 ghost use Rattle.law_bytes.specs.Words.{part};
 ghost use Rattle.law_bytes.specs.PageAreas.{blocks-of, pages-of};
 ghost use Rattle.def_model.specs.Areas.{block-ok};
@@ -31,7 +32,7 @@ ghost use Rattle.sound_parts.specs.Desks.{desk-with};
 ghost use Rattle.sound_parts.specs.Reserves.{reserves-by, update-slots-by, update-pages-by, begin-slots-by};
 
 fn page_at_ok(pages: &[u8], n: usize, p: usize) -> bool
-    requires { ⌜ (length (now pages) ≡ page-size * n) × (n ≤ most-pages) × (p < n) ⌝ }
+    requires { ⌜ HasPages n (now pages) × (p < n) ⌝ }
     ensures { λ r. ⌜ r ≡ block-ok n p (read-block (part (now (pages .entry)) (page-size * p) page-size)) ⌝ }
 {
     let a = PAGE_SIZE * p;
@@ -40,7 +41,7 @@ fn page_at_ok(pages: &[u8], n: usize, p: usize) -> bool
 
 // Refusal 3 finds nothing in the n pages.
 pub fn layouts_ok(pages: &[u8], n: usize) -> bool
-    requires { ⌜ (length (now pages) ≡ page-size * n) × (n ≤ most-pages) ⌝ }
+    requires { ⌜ HasPages n (now pages) ⌝ }
     ensures { λ r. ⌜ r ≡ blocks-ok n 0 (blocks-of n (now (pages .entry))) ⌝ }
 {
     let mut p = 0;
@@ -55,7 +56,7 @@ pub fn layouts_ok(pages: &[u8], n: usize) -> bool
 
 // No page has a log number above the last record's.
 pub fn numbers_ok(pages: &[u8], n: usize, last: u32) -> bool
-    requires { ⌜ (length (now pages) ≡ page-size * n) × (n ≤ most-pages) ⌝ }
+    requires { ⌜ HasPages n (now pages) ⌝ }
     ensures { λ r. ⌜ r ≡ numbers-ok last (pages-of n (now (pages .entry))) ⌝ }
 {
     let mut p = 0;
@@ -80,7 +81,7 @@ fn zero_from(s: &[u8], a: usize) -> bool
 // "the stored count is the number of full stable slots, and these equal the working ones", of a working log of `logged` records and empty slots
 // after them.
 pub fn stored_ok(wl: &[u8], sl: &[u8], m: usize, logged: u32, stored: u32) -> bool
-    requires { ⌜ (length (now wl) ≡ slot-size * m) × (length (now sl) ≡ slot-size * m) × (m ≤ most-slots) ⌝ }
+    requires { ⌜ HasSlots m (now wl) × HasSlots m (now sl) ⌝ }
     ensures { λ r. ⌜ ((l : List Rec) → length l ≡ logged → slots-of m (now (wl .entry)) ≡ log-area m l → r ≡ stored-is m (slots-of m (now (sl .entry))) l stored) ⌝ }
 {
     if logged < stored {
@@ -173,7 +174,7 @@ pub fn begin_has_slots(slots: usize, used: usize, pending: usize, batches: usize
 
 // The pages that the map does not mark; all of them if page 0 is not the map.
 pub fn free_pages(pages: &[u8], n: usize) -> usize
-    requires { ⌜ (length (now pages) ≡ page-size * n) × (n ≤ most-pages) ⌝ }
+    requires { ⌜ HasPages n (now pages) ⌝ }
     ensures { λ r. ⌜ (r ≡ free-pages (pages-of n (now (pages .entry)))) × (r ≤ n) ⌝ }
 {
     let x = nth_page(pages, n, 0);

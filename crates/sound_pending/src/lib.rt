@@ -6,10 +6,9 @@ use log_pending::line_at;
 use tree_lookup::Value;
 use tree_lookup::fetched;
 ghost use mathlib.Core.Path.{_≡_};
-ghost use Prim.Native.Nat.{_*_, _≤_, _<_};
-ghost use lib.ListN.{length};
+ghost use Prim.Native.Nat.{_<_};
 ghost use lib.Dec.{eqb};
-ghost use Rattle.def_layout.specs.Sizes.{page-size, slot-size, most-pages, most-slots};
+ghost use Rattle.law_bytes.specs.AreaSizes.{HasPages, HasSlots, HasAreas};
 ghost use Rattle.sound_pending.specs.Keys.{from-to, KeysSay, NewestSays};
 ghost use Rattle.sound_pending.specs.Rows.{RowKeys, DeskKeys, HeldIs, HeldBetweenIs};
 ghost use Rattle.sound_pending.specs.Alternating.{Alternates, AlternateSays};
@@ -30,7 +29,7 @@ fn within(first: u64, key: u32, last: u32) -> bool
 
 // Whether one of `count` lines, down from number `from`, has such a key.
 fn has_within(log: &[u8], m: usize, from: u32, count: u32, first: u64, last: u32) -> bool
-    requires { ⌜ (length (now log) ≡ slot-size * m) × (m ≤ most-slots) ⌝ }
+    requires { ⌜ HasSlots m (now log) ⌝ }
     ensures { λ r. ⌜ KeysSay (from-to first last) m (now (log .entry)) from count r ⌝ }
 {
     let mut at = from;
@@ -48,7 +47,7 @@ fn has_within(log: &[u8], m: usize, from: u32, count: u32, first: u64, last: u32
 
 // Whether one of them has key k.
 fn has_key(log: &[u8], m: usize, from: u32, count: u32, k: u32) -> bool
-    requires { ⌜ (length (now log) ≡ slot-size * m) × (m ≤ most-slots) ⌝ }
+    requires { ⌜ HasSlots m (now log) ⌝ }
     ensures { λ r. ⌜ KeysSay (λ key. eqb k key) m (now (log .entry)) from count r ⌝ }
 {
     has_within(log, m, from, count, k as u64, k)
@@ -56,7 +55,7 @@ fn has_key(log: &[u8], m: usize, from: u32, count: u32, k: u32) -> bool
 
 // The newest of them on key k; number 0 if there is none.
 fn newest_on(log: &[u8], m: usize, from: u32, count: u32, k: u32) -> Line
-    requires { ⌜ (length (now log) ≡ slot-size * m) × (m ≤ most-slots) ⌝ }
+    requires { ⌜ HasSlots m (now log) ⌝ }
     ensures { λ r. ⌜ NewestSays k m (now (log .entry)) from count r ⌝ }
 {
     let mut at = from;
@@ -80,7 +79,7 @@ fn newest_on(log: &[u8], m: usize, from: u32, count: u32, k: u32) -> Line
 
 // The row's batch is another than n, and has a key from `first` up to `last` pending.
 fn row_has_within(log: &[u8], m: usize, row: Row, n: u32, first: u64, last: u32) -> bool
-    requires { ⌜ (length (now log) ≡ slot-size * m) × (m ≤ most-slots) ⌝ }
+    requires { ⌜ HasSlots m (now log) ⌝ }
     ensures { λ r. ⌜ RowKeys (from-to first last) m (now (log .entry)) row n r ⌝ }
 {
     if n == row.batch {
@@ -90,7 +89,7 @@ fn row_has_within(log: &[u8], m: usize, row: Row, n: u32, first: u64, last: u32)
 }
 
 fn held_within(log: &[u8], m: usize, d: Desk, n: u32, first: u64, last: u32) -> bool
-    requires { ⌜ (length (now log) ≡ slot-size * m) × (m ≤ most-slots) ⌝ }
+    requires { ⌜ HasSlots m (now log) ⌝ }
     ensures { λ r. ⌜ DeskKeys (from-to first last) m (now (log .entry)) (d .rows) n r ⌝ }
 {
     let mut i = 0;
@@ -105,7 +104,7 @@ fn held_within(log: &[u8], m: usize, d: Desk, n: u32, first: u64, last: u32) -> 
 
 // 01: "A key is held while an open batch has a record on it that is not yet undone (pending)": held against batch n.
 pub fn held(log: &[u8], m: usize, d: Desk, n: u32, k: u32) -> bool
-    requires { ⌜ (length (now log) ≡ slot-size * m) × (m ≤ most-slots) ⌝ }
+    requires { ⌜ HasSlots m (now log) ⌝ }
     ensures { λ r. ⌜ HeldIs m (now (log .entry)) (d .rows) n k r ⌝ }
 {
     held_within(log, m, d, n, k as u64, k)
@@ -113,7 +112,7 @@ pub fn held(log: &[u8], m: usize, d: Desk, n: u32, k: u32) -> bool
 
 // Another batch holds a key above `low`, up to `high`.
 pub fn held_between(log: &[u8], m: usize, d: Desk, n: u32, low: u32, high: u32) -> bool
-    requires { ⌜ (length (now log) ≡ slot-size * m) × (m ≤ most-slots) ⌝ }
+    requires { ⌜ HasSlots m (now log) ⌝ }
     ensures { λ r. ⌜ HeldBetweenIs m (now (log .entry)) (d .rows) n low high r ⌝ }
 {
     held_within(log, m, d, n, low as u64 + 1, high)
@@ -137,7 +136,7 @@ fn alternates(x: Line, older: Line) -> bool
 
 // 01: pending records on a key "alternate, a delete after an insert has its value".
 fn lines_alternate(log: &[u8], m: usize, from: u32, count: u32) -> bool
-    requires { ⌜ (length (now log) ≡ slot-size * m) × (m ≤ most-slots) ⌝ }
+    requires { ⌜ HasSlots m (now log) ⌝ }
     ensures { λ r. ⌜ AlternateSays m (now (log .entry)) from count r ⌝ }
 {
     let mut at = from;
@@ -156,7 +155,7 @@ fn lines_alternate(log: &[u8], m: usize, from: u32, count: u32) -> bool
 
 // None of `count` lines, down from number `from`, has a key that is pending in the row's batch.
 fn lines_free(log: &[u8], m: usize, row: Row, from: u32, count: u32) -> bool
-    requires { ⌜ (length (now log) ≡ slot-size * m) × (m ≤ most-slots) ⌝ }
+    requires { ⌜ HasSlots m (now log) ⌝ }
     ensures { λ r. ⌜ FreeSays m (now (log .entry)) row from count r ⌝ }
 {
     let mut at = from;
@@ -174,7 +173,7 @@ fn lines_free(log: &[u8], m: usize, row: Row, from: u32, count: u32) -> bool
 
 // 01: "pending records on a key are of one batch": row i against those behind it.
 fn row_apart(log: &[u8], m: usize, rows: [Row; 8], i: usize) -> bool
-    requires { ⌜ (length (now log) ≡ slot-size * m) × (m ≤ most-slots) × (i < 8) ⌝ }
+    requires { ⌜ HasSlots m (now log) × (i < 8) ⌝ }
     ensures { λ r. ⌜ ApartIs m (now (log .entry)) rows i r ⌝ }
 {
     let row = rows[i];
@@ -191,7 +190,7 @@ fn row_apart(log: &[u8], m: usize, rows: [Row; 8], i: usize) -> bool
 
 // An insert's key is in the tree with its value, a delete's is not.
 fn agrees(pages: &[u8], n: usize, x: Line) -> bool
-    requires { ⌜ (length (now pages) ≡ page-size * n) × (n ≤ most-pages) ⌝ }
+    requires { ⌜ HasPages n (now pages) ⌝ }
     ensures { λ r. ⌜ Agrees (pages-of n (now (pages .entry))) x r ⌝ }
 {
     let v = fetched(pages, n, x.key);
@@ -206,7 +205,7 @@ fn agrees(pages: &[u8], n: usize, x: Line) -> bool
 
 // A line agrees where none of the `newer` ones before it, down from number `from`, is on its key.
 fn line_agrees(pages: &[u8], n: usize, log: &[u8], m: usize, from: u32, newer: u32, x: Line) -> bool
-    requires { ⌜ (length (now pages) ≡ page-size * n) × (n ≤ most-pages) × (length (now log) ≡ slot-size * m) × (m ≤ most-slots) ⌝ }
+    requires { ⌜ HasAreas n m (now pages) (now log) ⌝ }
     ensures { λ r. ⌜ LineAgrees (pages-of n (now (pages .entry))) m (now (log .entry)) from newer x r ⌝ }
 {
     if has_key(log, m, from, newer, x.key) {
@@ -217,7 +216,7 @@ fn line_agrees(pages: &[u8], n: usize, log: &[u8], m: usize, from: u32, newer: u
 
 // 01: "the newest agrees with the tree".
 fn newest_agree(pages: &[u8], n: usize, log: &[u8], m: usize, from: u32, count: u32) -> bool
-    requires { ⌜ (length (now pages) ≡ page-size * n) × (n ≤ most-pages) × (length (now log) ≡ slot-size * m) × (m ≤ most-slots) ⌝ }
+    requires { ⌜ HasAreas n m (now pages) (now log) ⌝ }
     ensures { λ r. ⌜ AgreeSays (pages-of n (now (pages .entry))) m (now (log .entry)) from count r ⌝ }
 {
     let mut at = from;
@@ -235,7 +234,7 @@ fn newest_agree(pages: &[u8], n: usize, log: &[u8], m: usize, from: u32, count: 
 
 // Row i's batch keeps the pending rule.
 fn batch_ok(pages: &[u8], n: usize, log: &[u8], m: usize, rows: [Row; 8], i: usize) -> bool
-    requires { ⌜ (length (now pages) ≡ page-size * n) × (n ≤ most-pages) × (length (now log) ≡ slot-size * m) × (m ≤ most-slots) × (i < 8) ⌝ }
+    requires { ⌜ HasAreas n m (now pages) (now log) × (i < 8) ⌝ }
     ensures { λ r. ⌜ BatchIs (pages-of n (now (pages .entry))) m (now (log .entry)) rows i r ⌝ }
 {
     let row = rows[i];
@@ -250,7 +249,7 @@ fn batch_ok(pages: &[u8], n: usize, log: &[u8], m: usize, rows: [Row; 8], i: usi
 
 // The pending rule, of the batches of eight rows.
 pub fn pending_ok(pages: &[u8], n: usize, log: &[u8], m: usize, rows: [Row; 8]) -> bool
-    requires { ⌜ (length (now pages) ≡ page-size * n) × (n ≤ most-pages) × (length (now log) ≡ slot-size * m) × (m ≤ most-slots) ⌝ }
+    requires { ⌜ HasAreas n m (now pages) (now log) ⌝ }
     ensures { λ r. ⌜ RuleIs (pages-of n (now (pages .entry))) m (now (log .entry)) rows r ⌝ }
 {
     let mut i = 0;

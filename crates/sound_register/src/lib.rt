@@ -12,10 +12,10 @@ use sound_parts::stored_ok;
 use sound_pending::pending_ok;
 use tree_check::tree_ok;
 ghost use mathlib.Core.Path.{_≡_};
-ghost use mathlib.Core.Bool.{true, false};
-ghost use Prim.Native.Nat.{_*_, _≤_};
-ghost use lib.ListN.{length};
-ghost use Rattle.def_layout.specs.Sizes.{page-size, slot-size, most-pages, most-slots};
+ghost use mathlib.Core.Bool.{false};
+ghost use Prim.Native.Nat.{_≤_};
+ghost use Rattle.def_layout.specs.Sizes.{most-slots};
+ghost use Rattle.law_bytes.specs.AreaSizes.{HasPages, HasSlots, HasAreas};
 ghost use Rattle.law_bytes.specs.DeskRows.{LowRows};
 ghost use Rattle.log_judge.specs.Accepted.{total};
 ghost use Rattle.law_bytes.specs.PageAreas.{pages-of};
@@ -45,7 +45,7 @@ fn unsound() -> Standing
 
 // The reserves of a register of n pages and m slots, by what its desk counts.
 fn reserved(wp: &[u8], n: usize, m: usize, d: Desk, marked: [bool; 8]) -> Standing
-    requires { ⌜ (length (now wp) ≡ page-size * n) × (n ≤ most-pages) × (d .logged ≤ most-slots) × LowRows (d .rows) × (total (d .rows) ≤ most-slots) ⌝ }
+    requires { ⌜ HasPages n (now wp) × (d .logged ≤ most-slots) × LowRows (d .rows) × (total (d .rows) ≤ most-slots) ⌝ }
     ensures { λ r. ⌜ Reserved m (pages-of n (now (wp .entry))) d marked r ⌝ }
 {
     let rows = d.rows;
@@ -66,7 +66,7 @@ fn reserved(wp: &[u8], n: usize, m: usize, d: Desk, marked: [bool; 8]) -> Standi
 // Whether a register of n pages and m slots and its desk are sound, and what is then known. The reserves stand before the pending rule: they bound
 // the lines that it compares.
 pub fn standing_of(wp: &[u8], wl: &[u8], sl: &[u8], n: usize, m: usize, d: Desk) -> Standing
-    requires { ⌜ (length (now wp) ≡ page-size * n) × (n ≤ most-pages) × (length (now wl) ≡ slot-size * m) × (m ≤ most-slots) × (length (now sl) ≡ slot-size * m) ⌝ }
+    requires { ⌜ HasAreas n m (now wp) (now wl) × HasSlots m (now sl) ⌝ }
     ensures { λ r. ⌜ Stands n m (now (wp .entry)) (now (wl .entry)) (now (sl .entry)) d r ⌝ }
 {
     if !layouts_ok(wp, n) {

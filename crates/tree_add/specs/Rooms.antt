@@ -10,6 +10,7 @@ use Rattle.def_layout.specs.Pages.{Page, at}
 use Rattle.def_layout.specs.Records.{Rec, Kind, data-row}
 use Rattle.def_model.specs.Lookup.{covering, entry-for}
 use Rattle.def_model.specs.Update.{Run, At, Pair, split-page, room-by, make-room, link-child, linked-by, direct-by, direct-for, direct, raise-by, raise-root, descend-add, find-add, emit, put-record}
+use Rattle.law_bytes.specs.Slices.{Slice}
 use Rattle.codec_page.specs.declared.Page as program
 use Rattle.codec_page.specs.Typed.{typed}
 use Rattle.record_pages.specs.Pages.{Reads, reads-count}
@@ -26,6 +27,13 @@ pub record ShowsPair (n m : ℕ) (wp wl : List ℕ) (a : two.Pair) (b : Pair) : 
   pub run : Shows n m wp wl (a .run) (b .run)
   pub parent : a .parent ≡ b .parent
   pub child : a .child ≡ b .child
+
+-- Does, of code that comes to a page, and of code that comes to a page and its child.
+abbrev pub DoesAt : (n m : ℕ) (wp wl : Slice) (t : run.Run) (a : here.At) (f : Run → At) → Type 0
+DoesAt n m wp wl t a f = (s : Run) → Shows n m (wp .entry .now) (wl .entry .now) t s → ShowsAt n m (wp .exit .now) (wl .exit .now) a (f s)
+
+abbrev pub DoesPair : (n m : ℕ) (wp wl : Slice) (t : run.Run) (d : two.Pair) (f : Run → Pair) → Type 0
+DoesPair n m wp wl t d f = (s : Run) → Shows n m (wp .entry .now) (wl .entry .now) t s → ShowsPair n m (wp .exit .now) (wl .exit .now) d (f s)
 
 -- ---- the half covering k
 

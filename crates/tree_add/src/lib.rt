@@ -17,20 +17,20 @@ use tree_write::emit_taking;
 use tree_write::fresh;
 ghost use mathlib.Core.Path.{_≡_};
 ghost use mathlib.Core.List.{List};
-ghost use Prim.Native.Nat.{_*_, _≤_, _<_};
-ghost use lib.ListN.{length};
+ghost use Prim.Native.Nat.{_≤_, _<_};
 ghost use lib.Dec.{leb};
-ghost use Rattle.def_layout.specs.Sizes.{page-size, slot-size, most-pages, most-slots, room};
+ghost use Rattle.def_layout.specs.Sizes.{room};
 ghost use Rattle.def_base.specs.Tests.{pick};
 ghost use Rattle.def_layout.specs.Pages as layout;
 ghost use Rattle.def_layout.specs.Records.{kind-of};
 ghost use Rattle.def_model.specs.Update as model;
+ghost use Rattle.law_bytes.specs.AreaSizes.{HasPages, HasAreas};
 ghost use Rattle.law_bytes.specs.EntryBytes.{used};
 ghost use Rattle.record_apply.specs.Lists.{listed};
 ghost use Rattle.record_apply.specs.Pages.{rec};
 ghost use Rattle.record_pages.specs.Pages.{Pages};
-ghost use Rattle.tree_write.specs.Shows.{Shows};
-ghost use Rattle.tree_add.specs.Rooms.{ShowsAt, ShowsPair};
+ghost use Rattle.tree_write.specs.Shows.{Does};
+ghost use Rattle.tree_add.specs.Rooms.{DoesAt, DoesPair};
 ghost use Rattle.tree_add.specs.Rows.{split-from};
 
 // A run, and the page that it has come to.
@@ -60,7 +60,7 @@ pub fn list_of(x: Page) -> EntryList
 
 // The half covering k, of page p and the one after it.
 pub fn half(wp: &[u8], n: usize, k: u32, p: u32) -> u32
-    requires { ⌜ (length (now wp) ≡ page-size * n) × (n ≤ most-pages) ⌝ }
+    requires { ⌜ HasPages n (now wp) ⌝ }
     ensures { λ r. ⌜ ((xs : List layout.Page) → Pages n (now (wp .entry)) xs → r ≡ pick (leb k (layout.at xs p .high)) p (layout.at xs p .right)) ⌝ }
 {
     let x = page_at(wp, n, p);
@@ -83,8 +83,8 @@ fn split_of(x: Page, p: u32, b: u32) -> Record
 }
 
 fn split_page(wp: &mut [u8], wl: &mut [u8], n: usize, m: usize, t: Run, p: u32) -> Run
-    requires { ⌜ (length (now wp) ≡ page-size * n) × (n ≤ most-pages) × (length (now wl) ≡ slot-size * m) × (m ≤ most-slots) ⌝ }
-    ensures { λ u. ⌜ ((s : model.Run) → Shows n m (now (wp .entry)) (now (wl .entry)) t s → Shows n m (now (wp .exit)) (now (wl .exit)) u (model.split-page p s)) ⌝ }
+    requires { ⌜ HasAreas n m (now wp) (now wl) ⌝ }
+    ensures { λ u. ⌜ Does n m wp wl t u (model.split-page p) ⌝ }
 {
     let x = page_at(wp, n, p);
     let b = fresh(wp, n);
@@ -94,8 +94,8 @@ fn split_page(wp: &mut [u8], wl: &mut [u8], n: usize, m: usize, t: Run, p: u32) 
 
 // 01: "split P if it has 14 entries and go on in the half covering k".
 pub fn make_room(wp: &mut [u8], wl: &mut [u8], n: usize, m: usize, t: Run, k: u32, p: u32) -> At
-    requires { ⌜ (length (now wp) ≡ page-size * n) × (n ≤ most-pages) × (length (now wl) ≡ slot-size * m) × (m ≤ most-slots) ⌝ }
-    ensures { λ a. ⌜ ((s : model.Run) → Shows n m (now (wp .entry)) (now (wl .entry)) t s → ShowsAt n m (now (wp .exit)) (now (wl .exit)) a (model.make-room k p s)) ⌝ }
+    requires { ⌜ HasAreas n m (now wp) (now wl) ⌝ }
+    ensures { λ a. ⌜ DoesAt n m wp wl t a (model.make-room k p) ⌝ }
 {
     let x = page_at(wp, n, p);
     if x.count != MOST_ENTRIES {
@@ -119,8 +119,8 @@ pub fn link_child(
     q: u32,
     w: u32,
 ) -> Run
-    requires { ⌜ (length (now wp) ≡ page-size * n) × (n ≤ most-pages) × (length (now wl) ≡ slot-size * m) × (m ≤ most-slots) ⌝ }
-    ensures { λ u. ⌜ ((s : model.Run) → Shows n m (now (wp .entry)) (now (wl .entry)) t s → Shows n m (now (wp .exit)) (now (wl .exit)) u (model.link-child p q w s)) ⌝ }
+    requires { ⌜ HasAreas n m (now wp) (now wl) ⌝ }
+    ensures { λ u. ⌜ Does n m wp wl t u (model.link-child p q w) ⌝ }
 {
     let x = page_at(wp, n, q);
     emit(wp, wl, n, m, t, link_row(p, q, x.right, x.high, w))
@@ -129,8 +129,8 @@ pub fn link_child(
 // Step 2: "At index page P, child Q has the least entry key not below k. If Q's high key is below that entry: .. link; Q becomes the half
 // covering k."
 pub fn direct(wp: &mut [u8], wl: &mut [u8], n: usize, m: usize, t: Run, k: u32, p: u32) -> Pair
-    requires { ⌜ (length (now wp) ≡ page-size * n) × (n ≤ most-pages) × (length (now wl) ≡ slot-size * m) × (m ≤ most-slots) ⌝ }
-    ensures { λ d. ⌜ ((s : model.Run) → Shows n m (now (wp .entry)) (now (wl .entry)) t s → ShowsPair n m (now (wp .exit)) (now (wl .exit)) d (model.direct k p s)) ⌝ }
+    requires { ⌜ HasAreas n m (now wp) (now wl) ⌝ }
+    ensures { λ d. ⌜ DoesPair n m wp wl t d (model.direct k p) ⌝ }
 {
     let x = page_at(wp, n, p);
     let e = entry_for(x, k);
@@ -153,8 +153,8 @@ pub fn direct(wp: &mut [u8], wl: &mut [u8], n: usize, m: usize, t: Run, k: u32, 
 
 // Step 1: "If the root has a right sibling: raise."
 pub fn raise_root(wp: &mut [u8], wl: &mut [u8], n: usize, m: usize, t: Run) -> Run
-    requires { ⌜ (length (now wp) ≡ page-size * n) × (n ≤ most-pages) × (length (now wl) ≡ slot-size * m) × (m ≤ most-slots) ⌝ }
-    ensures { λ u. ⌜ ((s : model.Run) → Shows n m (now (wp .entry)) (now (wl .entry)) t s → Shows n m (now (wp .exit)) (now (wl .exit)) u (model.raise-root s)) ⌝ }
+    requires { ⌜ HasAreas n m (now wp) (now wl) ⌝ }
+    ensures { λ u. ⌜ Does n m wp wl t u model.raise-root ⌝ }
 {
     let x = page_at(wp, n, 1);
     if x.right == 0 {
@@ -167,10 +167,8 @@ pub fn raise_root(wp: &mut [u8], wl: &mut [u8], n: usize, m: usize, t: Run) -> R
 
 // Down to the leaf that covers k, from the root.
 fn descend_add(wp: &mut [u8], wl: &mut [u8], n: usize, m: usize, t: Run, k: u32) -> At
-    requires { ⌜ (length (now wp) ≡ page-size * n) × (n ≤ most-pages) × (length (now wl) ≡ slot-size * m) × (m ≤ most-slots) ⌝ }
-    ensures { λ a.
-        ⌜ ((s : model.Run) → Shows n m (now (wp .entry)) (now (wl .entry)) t s
-        → ShowsAt n m (now (wp .exit)) (now (wl .exit)) a (model.descend-add (layout.at (s .pages) 1 .level) k 1 s)) ⌝ }
+    requires { ⌜ HasAreas n m (now wp) (now wl) ⌝ }
+    ensures { λ a. ⌜ DoesAt n m wp wl t a (λ (s : model.Run). model.descend-add (layout.at (s .pages) 1 .level) k 1 s) ⌝ }
 {
     let root = page_at(wp, n, 1);
     let mut l = root.level;
@@ -187,8 +185,8 @@ fn descend_add(wp: &mut [u8], wl: &mut [u8], n: usize, m: usize, t: Run, k: u32)
 
 // The leaf to add k to. Step 4: "When adding, a full leaf is split."
 fn find_add(wp: &mut [u8], wl: &mut [u8], n: usize, m: usize, t: Run, k: u32) -> At
-    requires { ⌜ (length (now wp) ≡ page-size * n) × (n ≤ most-pages) × (length (now wl) ≡ slot-size * m) × (m ≤ most-slots) ⌝ }
-    ensures { λ a. ⌜ ((s : model.Run) → Shows n m (now (wp .entry)) (now (wl .entry)) t s → ShowsAt n m (now (wp .exit)) (now (wl .exit)) a (model.find-add k s)) ⌝ }
+    requires { ⌜ HasAreas n m (now wp) (now wl) ⌝ }
+    ensures { λ a. ⌜ DoesAt n m wp wl t a (model.find-add k) ⌝ }
 {
     let u = raise_root(wp, wl, n, m, t);
     let a = descend_add(wp, wl, n, m, u, k);
@@ -208,10 +206,8 @@ pub fn put_record(
     k: u32,
     v: u32,
 ) -> Run
-    requires { ⌜ (length (now wp) ≡ page-size * n) × (n ≤ most-pages) × (length (now wl) ≡ slot-size * m) × (m ≤ most-slots) × (kind < 9) ⌝ }
-    ensures { λ u.
-        ⌜ ((s : model.Run) → Shows n m (now (wp .entry)) (now (wl .entry)) t s
-        → Shows n m (now (wp .exit)) (now (wl .exit)) u (model.put-record (kind-of kind) batch previous k v s)) ⌝ }
+    requires { ⌜ HasAreas n m (now wp) (now wl) × (kind < 9) ⌝ }
+    ensures { λ u. ⌜ Does n m wp wl t u (model.put-record (kind-of kind) batch previous k v) ⌝ }
 {
     let a = find_add(wp, wl, n, m, t, k);
     let r = data_row(kind, batch, previous, a.page, k, v);

@@ -8,12 +8,12 @@ use def_layout::Entry;
 use def_layout::ROOM;
 ghost use mathlib.Core.Path.{_≡_};
 ghost use mathlib.Core.Bool.{true, false};
-ghost use Prim.Native.Nat.{_*_, _≤_, _<_};
+ghost use Prim.Native.Nat.{_≤_, _<_};
 ghost use lib.Dec.{eqb};
-ghost use lib.ListN.{length};
-ghost use Rattle.def_layout.specs.Sizes.{page-size, most-pages, room};
+ghost use Rattle.def_layout.specs.Sizes.{most-pages, room};
 ghost use Rattle.def_layout.specs.Entries.{entry-at};
 ghost use Rattle.def_layout.specs.Pages.{at, kind-is, kind-at};
+ghost use Rattle.law_bytes.specs.AreaSizes.{HasPages};
 ghost use Rattle.law_bytes.specs.EntryBytes.{used};
 ghost use Rattle.codec_page.specs.Typed.{typed};
 ghost use Rattle.law_bytes.specs.PageAreas.{pages-of};
@@ -177,7 +177,7 @@ fn above_root() -> Above
 
 // The first entry of page p, which `left` pages may follow.
 fn start_above(pages: &[u8], n: usize, p: usize, left: usize, due: bool) -> Above
-    requires { ⌜ (length (now pages) ≡ page-size * n) × (n ≤ most-pages) ⌝ }
+    requires { ⌜ HasPages n (now pages) ⌝ }
     ensures { λ r. ⌜ Started (pages-of n (now (pages .entry))) p left due r ⌝ }
 {
     let x = nth_page(pages, n, p);
@@ -194,7 +194,7 @@ fn start_above(pages: &[u8], n: usize, p: usize, left: usize, due: bool) -> Abov
 
 // The same place, at an entry if one is left: from a page's end on to the next page. (A page above has an entry, so this is one step.)
 fn ready(pages: &[u8], n: usize, c: Above) -> Above
-    requires { ⌜ (length (now pages) ≡ page-size * n) × (n ≤ most-pages) ⌝ }
+    requires { ⌜ HasPages n (now pages) ⌝ }
     ensures { λ r. ⌜ Readied (pages-of n (now (pages .entry))) c r ⌝ }
 {
     let mut r = c;
@@ -282,7 +282,7 @@ fn level_ended(c: Above, from: usize) -> bool
 
 // Level by level and page by page, left at the first rule that is broken; `count` is of the map and the pages passed.
 fn levels_ok(pages: &[u8], n: usize, map: [Entry; ROOM]) -> bool
-    requires { ⌜ (length (now pages) ≡ page-size * n) × (n ≤ most-pages) × (at (pages-of n (now pages)) 0 .marks ≡ marks map) ⌝ }
+    requires { ⌜ HasPages n (now pages) × (at (pages-of n (now pages)) 0 .marks ≡ marks map) ⌝ }
     ensures { λ r. ⌜ r ≡ walk-ok (pages-of n (now (pages .entry))) ⌝ }
 {
     let root = nth_page(pages, n, 1);
@@ -329,7 +329,7 @@ fn levels_ok(pages: &[u8], n: usize, map: [Entry; ROOM]) -> bool
 
 // THE TREE RULES of an area of n pages.
 pub fn tree_ok(pages: &[u8], n: usize) -> bool
-    requires { ⌜ (length (now pages) ≡ page-size * n) × (n ≤ most-pages) ⌝ }
+    requires { ⌜ HasPages n (now pages) ⌝ }
     ensures { λ r. ⌜ r ≡ tree-ok (pages-of n (now (pages .entry))) ⌝ }
 {
     let x = nth_page(pages, n, 0);

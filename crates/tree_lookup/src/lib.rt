@@ -6,12 +6,12 @@ use def_layout::Entry;
 use def_layout::MOST_ENTRIES;
 use def_layout::ROOM;
 ghost use mathlib.Core.Path.{_≡_};
-ghost use Prim.Native.Nat.{_*_, _≤_};
-ghost use lib.ListN.{length};
-ghost use Rattle.def_layout.specs.Sizes.{page-size, most-pages, room};
+ghost use Prim.Native.Nat.{_≤_};
+ghost use Rattle.def_layout.specs.Sizes.{room};
 ghost use Rattle.def_layout.specs.Entries.{seek, look};
 ghost use Rattle.def_layout.specs.Pages.{at};
 ghost use Rattle.def_model.specs.Lookup.{entry-for, covering, leaf-of, fetched, first-of, next-above};
+ghost use Rattle.law_bytes.specs.AreaSizes.{HasPages};
 ghost use Rattle.codec_page.specs.Typed.{typed};
 ghost use Rattle.law_bytes.specs.PageAreas.{pages-of};
 ghost use Rattle.tree_lookup.specs.Answers.{value-of, slide-of, shows};
@@ -101,7 +101,7 @@ fn first_of(x: Page) -> Slide
 
 // The page covering k: page p, or the page after it.
 pub fn covering(pages: &[u8], n: usize, k: u32, p: usize) -> Node
-    requires { ⌜ (length (now pages) ≡ page-size * n) × (n ≤ most-pages) ⌝ }
+    requires { ⌜ HasPages n (now pages) ⌝ }
     ensures { λ r. ⌜ shows r (covering k p (pages-of n (now (pages .entry)))) (pages-of n (now (pages .entry))) ⌝ }
 {
     let x = nth_page(pages, n, p);
@@ -117,7 +117,7 @@ pub fn covering(pages: &[u8], n: usize, k: u32, p: usize) -> Node
 
 // One level down: the child that leads to k, of the page covering it.
 fn child_for(pages: &[u8], n: usize, k: u32, p: usize) -> usize
-    requires { ⌜ (length (now pages) ≡ page-size * n) × (n ≤ most-pages) ⌝ }
+    requires { ⌜ HasPages n (now pages) ⌝ }
     ensures { λ r. ⌜ r ≡ entry-for k (at (pages-of n (now (pages .entry))) (covering k p (pages-of n (now (pages .entry)))) .entries) .val ⌝ }
 {
     let x = covering(pages, n, k, p).page;
@@ -126,7 +126,7 @@ fn child_for(pages: &[u8], n: usize, k: u32, p: usize) -> usize
 
 // The leaf covering k, down from the root as many levels as the root says.
 fn leaf_of(pages: &[u8], n: usize, k: u32) -> Page
-    requires { ⌜ (length (now pages) ≡ page-size * n) × (n ≤ most-pages) ⌝ }
+    requires { ⌜ HasPages n (now pages) ⌝ }
     ensures { λ r. ⌜ typed r ≡ at (pages-of n (now (pages .entry))) (leaf-of k (pages-of n (now (pages .entry)))) ⌝ }
 {
     let root = nth_page(pages, n, 1);
@@ -141,7 +141,7 @@ fn leaf_of(pages: &[u8], n: usize, k: u32) -> Page
 
 // 01: "Fetch answers a key's value."
 pub fn fetched(pages: &[u8], n: usize, k: u32) -> Value
-    requires { ⌜ (length (now pages) ≡ page-size * n) × (n ≤ most-pages) ⌝ }
+    requires { ⌜ HasPages n (now pages) ⌝ }
     ensures { λ r. ⌜ value-of r ≡ fetched k (pages-of n (now (pages .entry))) ⌝ }
 {
     look_in(leaf_of(pages, n, k), k)
@@ -149,7 +149,7 @@ pub fn fetched(pages: &[u8], n: usize, k: u32) -> Value
 
 // 01: "Next answers the first record above a key." In the leaf that covers the key after it, or else first in the leaf after that one.
 pub fn next_above(pages: &[u8], n: usize, k: u32) -> Slide
-    requires { ⌜ (length (now pages) ≡ page-size * n) × (n ≤ most-pages) ⌝ }
+    requires { ⌜ HasPages n (now pages) ⌝ }
     ensures { λ r. ⌜ slide-of r ≡ next-above k (pages-of n (now (pages .entry))) ⌝ }
 {
     if k >= 4294967295 {

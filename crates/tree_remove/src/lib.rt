@@ -26,18 +26,18 @@ use tree_write::Run;
 use tree_write::emit;
 ghost use mathlib.Core.Path.{_≡_};
 ghost use mathlib.Core.List.{_∷_};
-ghost use Prim.Native.Nat.{_+_, _*_, _/_, _≤_, _<_};
-ghost use lib.ListN.{length};
-ghost use Rattle.def_layout.specs.Sizes.{page-size, slot-size, most-pages, most-slots, room};
+ghost use Prim.Native.Nat.{_+_, _/_, _≤_, _<_};
+ghost use Rattle.def_layout.specs.Sizes.{room};
 ghost use Rattle.def_layout.specs.Entries.{no-entry, entry-at};
 ghost use Rattle.def_layout.specs.Pages as layout;
 ghost use Rattle.def_layout.specs.Records.{kind-of};
 ghost use Rattle.def_model.specs.Update as model;
+ghost use Rattle.law_bytes.specs.AreaSizes.{HasPages, HasAreas};
 ghost use Rattle.law_bytes.specs.EntryBytes.{used};
 ghost use Rattle.record_apply.specs.Lists.{listed};
 ghost use Rattle.record_pages.specs.Pages.{Pages};
-ghost use Rattle.tree_write.specs.Shows.{Shows};
-ghost use Rattle.tree_add.specs.Rooms.{ShowsAt, ShowsPair};
+ghost use Rattle.tree_write.specs.Shows.{Does};
+ghost use Rattle.tree_add.specs.Rooms.{ShowsAt, ShowsPair, DoesAt};
 ghost use Rattle.tree_remove.specs.Shares.{moved-of, shared-key};
 
 // 01: "Redistribution gives the left page the larger half": how many of a and b entries it gets.
@@ -105,8 +105,8 @@ fn join(
     r: u32,
     w: u32,
 ) -> Run
-    requires { ⌜ (length (now wp) ≡ page-size * n) × (n ≤ most-pages) × (length (now wl) ≡ slot-size * m) × (m ≤ most-slots) ⌝ }
-    ensures { λ u. ⌜ ((s : model.Run) → Shows n m (now (wp .entry)) (now (wl .entry)) t s → Shows n m (now (wp .exit)) (now (wl .exit)) u (model.join p l r w s)) ⌝ }
+    requires { ⌜ HasAreas n m (now wp) (now wl) ⌝ }
+    ensures { λ u. ⌜ Does n m wp wl t u (model.join p l r w) ⌝ }
 {
     let x = page_at(wp, n, l);
     let y = page_at(wp, n, r);
@@ -130,8 +130,8 @@ fn link_after(
     r: u32,
     w: u32,
 ) -> Run
-    requires { ⌜ (length (now wp) ≡ page-size * n) × (n ≤ most-pages) × (length (now wl) ≡ slot-size * m) × (m ≤ most-slots) ⌝ }
-    ensures { λ u. ⌜ ((s : model.Run) → Shows n m (now (wp .entry)) (now (wl .entry)) t s → Shows n m (now (wp .exit)) (now (wl .exit)) u (model.link-after p r w s)) ⌝ }
+    requires { ⌜ HasAreas n m (now wp) (now wl) ⌝ }
+    ensures { λ u. ⌜ Does n m wp wl t u (model.link-after p r w) ⌝ }
 {
     let x = page_at(wp, n, r);
     if x.high >= w {
@@ -151,8 +151,8 @@ fn unlink_join(
     l: u32,
     r: u32,
 ) -> Run
-    requires { ⌜ (length (now wp) ≡ page-size * n) × (n ≤ most-pages) × (length (now wl) ≡ slot-size * m) × (m ≤ most-slots) ⌝ }
-    ensures { λ u. ⌜ ((s : model.Run) → Shows n m (now (wp .entry)) (now (wl .entry)) t s → Shows n m (now (wp .exit)) (now (wl .exit)) u (model.unlink-join p l r s)) ⌝ }
+    requires { ⌜ HasAreas n m (now wp) (now wl) ⌝ }
+    ensures { λ u. ⌜ Does n m wp wl t u (model.unlink-join p l r) ⌝ }
 {
     let x = page_at(wp, n, l);
     let y = page_at(wp, n, r);
@@ -171,8 +171,8 @@ fn join_left(
     d: u32,
     q: u32,
 ) -> Run
-    requires { ⌜ (length (now wp) ≡ page-size * n) × (n ≤ most-pages) × (length (now wl) ≡ slot-size * m) × (m ≤ most-slots) ⌝ }
-    ensures { λ u. ⌜ ((s : model.Run) → Shows n m (now (wp .entry)) (now (wl .entry)) t s → Shows n m (now (wp .exit)) (now (wl .exit)) u (model.join-left p d q s)) ⌝ }
+    requires { ⌜ HasAreas n m (now wp) (now wl) ⌝ }
+    ensures { λ u. ⌜ Does n m wp wl t u (model.join-left p d q) ⌝ }
 {
     let x = page_at(wp, n, d);
     if x.right == q {
@@ -183,10 +183,8 @@ fn join_left(
 
 // 01: "If Q is not P's last child, take R, the next ..; If Q is last, take its left neighbour L, linking it first if indirect".
 fn restock(wp: &mut [u8], wl: &mut [u8], n: usize, m: usize, t: Run, k: u32, q: u32, p: u32) -> Run
-    requires { ⌜ (length (now wp) ≡ page-size * n) × (n ≤ most-pages) × (length (now wl) ≡ slot-size * m) × (m ≤ most-slots) ⌝ }
-    ensures { λ u.
-        ⌜ ((s : model.Run) → Shows n m (now (wp .entry)) (now (wl .entry)) t s
-        → Shows n m (now (wp .exit)) (now (wl .exit)) u (model.restock k q (record { run = s; page = p }))) ⌝ }
+    requires { ⌜ HasAreas n m (now wp) (now wl) ⌝ }
+    ensures { λ u. ⌜ Does n m wp wl t u (λ (s : model.Run). model.restock k q (record { run = s; page = p })) ⌝ }
 {
     let x = page_at(wp, n, p);
     let es = x.entries;
@@ -204,7 +202,7 @@ fn restock(wp: &mut [u8], wl: &mut [u8], n: usize, m: usize, t: Run, k: u32, q: 
 
 // 01: "Go on in the page covering k."
 fn refind(wp: &[u8], n: usize, k: u32, p: u32) -> u32
-    requires { ⌜ (length (now wp) ≡ page-size * n) × (n ≤ most-pages) ⌝ }
+    requires { ⌜ HasPages n (now wp) ⌝ }
     ensures { λ r. ⌜ ((s : model.Run) → Pages n (now (wp .entry)) (s .pages) → r ≡ model.refind k p s .page) ⌝ }
 {
     let x = page_at(wp, n, p);
@@ -214,7 +212,7 @@ fn refind(wp: &[u8], n: usize, k: u32, p: u32) -> u32
 
 // Step 3: "if Q has 4 entries: split P if full", then join.
 fn stocked(wp: &mut [u8], wl: &mut [u8], n: usize, m: usize, d: Pair, k: u32) -> At
-    requires { ⌜ (length (now wp) ≡ page-size * n) × (n ≤ most-pages) × (length (now wl) ≡ slot-size * m) × (m ≤ most-slots) ⌝ }
+    requires { ⌜ HasAreas n m (now wp) (now wl) ⌝ }
     ensures { λ a. ⌜ ((e : model.Pair) → ShowsPair n m (now (wp .entry)) (now (wl .entry)) d e → ShowsAt n m (now (wp .exit)) (now (wl .exit)) a (model.stocked k e)) ⌝ }
 {
     let x = page_at(wp, n, d.child);
@@ -232,8 +230,8 @@ fn stocked(wp: &mut [u8], wl: &mut [u8], n: usize, m: usize, d: Pair, k: u32) ->
 
 // The root takes the level and the entries of its only child q.
 fn lower_root(wp: &mut [u8], wl: &mut [u8], n: usize, m: usize, t: Run, q: u32) -> Run
-    requires { ⌜ (length (now wp) ≡ page-size * n) × (n ≤ most-pages) × (length (now wl) ≡ slot-size * m) × (m ≤ most-slots) ⌝ }
-    ensures { λ u. ⌜ ((s : model.Run) → Shows n m (now (wp .entry)) (now (wl .entry)) t s → Shows n m (now (wp .exit)) (now (wl .exit)) u (model.lower-root q s)) ⌝ }
+    requires { ⌜ HasAreas n m (now wp) (now wl) ⌝ }
+    ensures { λ u. ⌜ Does n m wp wl t u (model.lower-root q) ⌝ }
 {
     let x = page_at(wp, n, q);
     emit(wp, wl, n, m, t, lower_row(x.level, q, list_of(x)))
@@ -241,7 +239,7 @@ fn lower_root(wp: &mut [u8], wl: &mut [u8], n: usize, m: usize, t: Run, q: u32) 
 
 // Step 3: "if P is the root with one link, lower it and repeat from there."
 fn step(wp: &mut [u8], wl: &mut [u8], n: usize, m: usize, d: Pair, k: u32) -> At
-    requires { ⌜ (length (now wp) ≡ page-size * n) × (n ≤ most-pages) × (length (now wl) ≡ slot-size * m) × (m ≤ most-slots) ⌝ }
+    requires { ⌜ HasAreas n m (now wp) (now wl) ⌝ }
     ensures { λ a.
         ⌜ ((e : model.Pair) → ShowsPair n m (now (wp .entry)) (now (wl .entry)) d e
         → ShowsAt n m (now (wp .exit)) (now (wl .exit)) a (model.step-by (model.lone e) k e)) ⌝ }
@@ -259,10 +257,8 @@ fn step(wp: &mut [u8], wl: &mut [u8], n: usize, m: usize, d: Pair, k: u32) -> At
 
 // Down to the leaf that covers k, from the root.
 fn descend_remove(wp: &mut [u8], wl: &mut [u8], n: usize, m: usize, t: Run, k: u32) -> At
-    requires { ⌜ (length (now wp) ≡ page-size * n) × (n ≤ most-pages) × (length (now wl) ≡ slot-size * m) × (m ≤ most-slots) ⌝ }
-    ensures { λ a.
-        ⌜ ((s : model.Run) → Shows n m (now (wp .entry)) (now (wl .entry)) t s
-        → ShowsAt n m (now (wp .exit)) (now (wl .exit)) a (model.descend-remove (layout.at (s .pages) 1 .level) k 1 s)) ⌝ }
+    requires { ⌜ HasAreas n m (now wp) (now wl) ⌝ }
+    ensures { λ a. ⌜ DoesAt n m wp wl t a (λ (s : model.Run). model.descend-remove (layout.at (s .pages) 1 .level) k 1 s) ⌝ }
 {
     let root = page_at(wp, n, 1);
     let mut l = root.level;
@@ -291,10 +287,8 @@ pub fn remove_record(
     k: u32,
     v: u32,
 ) -> Run
-    requires { ⌜ (length (now wp) ≡ page-size * n) × (n ≤ most-pages) × (length (now wl) ≡ slot-size * m) × (m ≤ most-slots) × (kind < 9) ⌝ }
-    ensures { λ u.
-        ⌜ ((s : model.Run) → Shows n m (now (wp .entry)) (now (wl .entry)) t s
-        → Shows n m (now (wp .exit)) (now (wl .exit)) u (model.remove-record (kind-of kind) batch previous k v s)) ⌝ }
+    requires { ⌜ HasAreas n m (now wp) (now wl) × (kind < 9) ⌝ }
+    ensures { λ u. ⌜ Does n m wp wl t u (model.remove-record (kind-of kind) batch previous k v) ⌝ }
 {
     let u = raise_root(wp, wl, n, m, t);
     let a = descend_remove(wp, wl, n, m, u, k);

@@ -18,6 +18,7 @@ use Rattle.def_model.specs.Redo.{when-named, places, redo-places, redo-record}
 use Rattle.def_model.specs.Update.{Run, going, stopped, logged, emit-by, emit}
 use Rattle.def_model.specs.OnBytes.{joined, log-bytes, put-part}
 use Rattle.law_bytes.specs.Patch.{patch}
+use Rattle.law_bytes.specs.Slices.{Slice}
 use Rattle.law_areas.specs.Held.{put-is}
 use Rattle.law_areas.specs.Logs.{HoldsLog, log-put}
 use Rattle.law_widths.specs.Acting.{Narrow, act-fits}
@@ -33,6 +34,10 @@ pub record Shows (n m : ℕ) (wp wl : List ℕ) (t : program.Run) (s : Run) : Ty
   pub due : s .due ≡ suc (t .logged)
   pub room : s .room ≡ m - t .logged
   pub stop : s .stop ≡ t .stop
+
+-- What most contracts of code that changes the working areas say: from every run that they showed, it went on to what f makes of that run.
+abbrev pub Does : (n m : ℕ) (wp wl : Slice) (t u : program.Run) (f : Run → Run) → Type 0
+Does n m wp wl t u f = (s : Run) → Shows n m (wp .entry .now) (wl .entry .now) t s → Shows n m (wp .exit .now) (wl .exit .now) u (f s)
 
 abbrev pub at-stop : program.Run → ℕ → program.Run
 at-stop t n = record { logged = t .logged; stop = n }

@@ -13,12 +13,13 @@ ghost use mathlib.Core.Bool.{false};
 ghost use mathlib.Core.List.{List};
 ghost use Prim.Native.Nat.{ℕ, suc, _*_, _≤_, _<_};
 ghost use lib.ListN.{length};
-ghost use Rattle.def_layout.specs.Sizes.{page-size, slot-size, most-pages, most-slots, room};
+ghost use Rattle.def_layout.specs.Sizes.{slot-size, most-slots, room};
 ghost use Rattle.def_layout.specs.Pages.{Page};
 ghost use Rattle.def_layout.specs.Records.{Rec, kind-of, batch-row};
 ghost use Rattle.def_layout.specs.RecordBytes.{record-bytes};
 ghost use Rattle.def_model.specs.Change.{changes, shape};
 ghost use Rattle.def_model.specs.Update as model;
+ghost use Rattle.law_bytes.specs.AreaSizes.{HasPages, HasSlots, HasAreas};
 ghost use Rattle.law_bytes.specs.Patch.{patch};
 ghost use Rattle.record_apply.specs.Pages.{rec};
 ghost use Rattle.record_pages.specs.Pages.{Pages};
@@ -55,7 +56,7 @@ fn write_record(log: &mut [u8], i: u32, r: Record)
 
 // One record is logged and applied, if there is a slot for it.
 pub fn emit(wp: &mut [u8], wl: &mut [u8], n: usize, m: usize, t: Run, r: Record) -> Run
-    requires { ⌜ (length (now wp) ≡ page-size * n) × (n ≤ most-pages) × (length (now wl) ≡ slot-size * m) × (m ≤ most-slots) × (r .count ≤ room) ⌝ }
+    requires { ⌜ HasAreas n m (now wp) (now wl) × (r .count ≤ room) ⌝ }
     ensures { λ u. ⌜ ((s : model.Run) → Shows n m (now (wp .entry)) (now (wl .entry)) t s → Keeping m t (rec r) → Shows n m (now (wp .exit)) (now (wl .exit)) u (model.emit (rec r) s)) ⌝ }
 {
     if t.stop != 0 {
@@ -75,7 +76,7 @@ pub fn emit(wp: &mut [u8], wl: &mut [u8], n: usize, m: usize, t: Run, r: Record)
 
 // A record that changes no page (a begin, a commit, an abort mark, an end) is logged, if there is a slot for it.
 pub fn note(wl: &mut [u8], m: usize, t: Run, kind: u32, batch: u32, previous: u32) -> Run
-    requires { ⌜ (length (now wl) ≡ slot-size * m) × (m ≤ most-slots) × (shape (kind-of kind) ≡ changes false false false false) ⌝ }
+    requires { ⌜ HasSlots m (now wl) × (shape (kind-of kind) ≡ changes false false false false) ⌝ }
     ensures { λ u.
         ⌜ (t .logged ≤ u .logged) × (t .logged ≤ m → u .logged ≤ m)
         × ((n : ℕ) (wp : List ℕ) (s : model.Run) → Shows n m wp (now (wl .entry)) t s → Shows n m wp (now (wl .exit)) u (model.emit (batch-row (kind-of kind) batch previous) s)) ⌝ }
@@ -99,7 +100,7 @@ pub fn note(wl: &mut [u8], m: usize, t: Run, kind: u32, batch: u32, previous: u3
 
 // The page taken, of n: the free one with the highest number, or 0 if there is none.
 pub fn fresh(wp: &[u8], n: usize) -> u32
-    requires { ⌜ (length (now wp) ≡ page-size * n) × (n ≤ most-pages) ⌝ }
+    requires { ⌜ HasPages n (now wp) ⌝ }
     ensures { λ b. ⌜ (b < 1024) × ((xs : List Page) (near : ℕ) → Pages n (now (wp .entry)) xs → b ≡ model.fresh xs near) ⌝ }
 {
     let x = page_at(wp, n, 0);
@@ -120,7 +121,7 @@ pub fn emit_taking(
     r: Record,
     b: u32,
 ) -> Run
-    requires { ⌜ (length (now wp) ≡ page-size * n) × (n ≤ most-pages) × (length (now wl) ≡ slot-size * m) × (m ≤ most-slots) × (r .count ≤ room) ⌝ }
+    requires { ⌜ HasAreas n m (now wp) (now wl) × (r .count ≤ room) ⌝ }
     ensures { λ u.
         ⌜ ((s : model.Run) (f : ℕ → Rec) (near : ℕ) → Shows n m (now (wp .entry)) (now (wl .entry)) t s → Keeping m t (rec r) → b ≡ model.fresh (s .pages) near → f b ≡ rec r
         → Shows n m (now (wp .exit)) (now (wl .exit)) u (model.emit-taking f near s)) ⌝ }

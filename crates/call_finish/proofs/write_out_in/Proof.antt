@@ -8,7 +8,7 @@ use Rattle.call_finish.specs.Ends.{write-out-0}
 returns : tie.Need-returns
 returns c st g =
     let a = c .before .before .before .before .before .before .before .before .before .before .before .before .before .before .args in
-    write-out-0 g (a .p) (a .budget) _ (c .before .before .before .before .before .before .before .before .before .before .before .before .before .before .pre .8) _ _ (c .before .before .before .before .before .store-first .ensures) refl (c .with-stored .ensures)
+    write-out-0 g (a .p) (a .budget) _ (c .before .before .before .before .before .before .before .before .before .before .before .before .before .before .pre .4) _ _ (c .before .before .before .before .before .store-first .ensures) refl (c .with-stored .ensures)
 
 pub write-out-in-spec : {M : Type 1} → statement M
 write-out-in-spec =

@@ -13,7 +13,7 @@ abort-spec =
     (λ c. search needs)
     (λ c. search needs)
     (λ c budget. c .before .before .enter .ensures .refuses (c .before .if1 .taken) _ budget _ (c .refused .ensures) refl)
-    (λ c κs. let z = c .before .before .before .before .enter .ensures .sizes (c .before .before .before .if1 .left) .0 in (z .0, z .1, z .3, z .4))
+    (λ c κs. c .before .before .before .before .enter .ensures .sizes (c .before .before .before .if1 .left) .0 .0)
     (λ c. search needs)
     (λ c. search needs)
     (λ c budget. c .before .before .before .before .abort-in .ensures budget _ _ (c .before .before .before .before .before .before .before .before .before .enter .ensures .given (c .before .before .before .before .before .before .before .before .if1 .left))))

@@ -12,6 +12,6 @@ begin-spec =
     (λ c κs. search needs)
     (λ c. search needs)
     (λ c budget. c .before .before .enter .ensures .refuses (c .before .if1 .taken) _ budget _ (c .refused .ensures) refl)
-    (λ c κs. let z = c .before .before .before .enter .ensures .sizes (c .before .before .if1 .left) .0 in (z .3, z .4, z .7, z .8))
+    (λ c κs. let z = c .before .before .before .enter .ensures .sizes (c .before .before .if1 .left) .0 in ((z .0 .2, z .0 .3), z .3, z .4))
     (λ c. search needs)
     (λ c budget. c .before .before .begin-in .ensures _ budget _ _ _ (c .before .before .before .before .before .before .enter .ensures .given (c .before .before .before .before .before .if1 .left))))

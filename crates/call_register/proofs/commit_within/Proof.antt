@@ -13,7 +13,7 @@ commit-within-spec =
     (λ c. search needs)
     (λ c. search needs)
     (λ c. c .before .before .enter .ensures .refuses (c .before .if1 .taken) _ _ _ (c .refused .ensures) refl)
-    (λ c κs. let z = c .before .before .before .before .enter .ensures .sizes (c .before .before .before .if1 .left) .0 in (z .3, z .4, z .5, z .6, z .7))
+    (λ c κs. let z = c .before .before .before .before .enter .ensures .sizes (c .before .before .before .if1 .left) .0 in ((z .0 .2, z .0 .3), (z .1 .2, z .1 .3), z .2, z .3))
     (λ c. search needs)
     (λ c. search needs)
     (λ c. c .before .before .before .before .commit-in .ensures _ _ _ (c .before .before .before .before .before .before .before .before .before .enter .ensures .given (c .before .before .before .before .before .before .before .before .if1 .left))))

@@ -12,7 +12,7 @@ standing-of-requires : tie.Need-standing-of-requires
 standing-of-requires c κs =
     let a = c .before .before .before .before .before .before .before .args in
     let z = lengths-numbers (a .wp .now) (a .sp .now) (a .wl .now) (a .sl .now) (sym (c .before .before .lengths-ok .ensures) ∙ not-false _ (c .before .if1 .left)) in
-    (z .0, z .2, z .4, z .6, omega (arith, z .7, z .4))
+    ((z .0, z .2, z .4, z .6), (omega (arith, z .7, z .4), z .6))
 
 returns-3 : tie.Need-returns-3
 returns-3 c =

@@ -11,5 +11,5 @@ fetch-spec =
     (λ c κs. search needs)
     (λ c κs. search needs)
     (λ c budget. c .before .before .enter .ensures .refuses (c .before .if1 .taken) _ budget _ (c .refused .ensures) refl)
-    (λ c κs. let z = c .before .enter .ensures .sizes (c .if1 .left) .0 in (z .0, z .1, z .3, z .4))
+    (λ c κs. c .before .enter .ensures .sizes (c .if1 .left) .0 .0)
     (λ c budget. c .fetch-in .ensures budget _ _ _ (c .before .before .enter .ensures .given (c .before .if1 .left))))

@@ -13,7 +13,7 @@ insert-spec =
     (λ c. search needs)
     (λ c. search needs)
     (λ c budget. c .before .before .enter .ensures .refuses (c .before .if1 .taken) _ budget _ (c .refused .ensures) refl)
-    (λ c κs. let z = c .before .before .before .before .enter .ensures .sizes (c .before .before .before .if1 .left) .0 in (z .0, z .1, z .3, z .4, z .7, z .8, z .9))
+    (λ c κs. let z = c .before .before .before .before .enter .ensures .sizes (c .before .before .before .if1 .left) .0 in (z .0, z .3, z .4, z .5))
     (λ c. search needs)
     (λ c. search needs)
     (λ c budget. c .before .before .before .before .insert-in .ensures budget _ _ (c .before .before .before .before .before .before .before .before .before .enter .ensures .given (c .before .before .before .before .before .before .before .before .if1 .left))))

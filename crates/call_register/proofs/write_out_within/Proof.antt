@@ -13,7 +13,7 @@ write-out-within-spec =
     (λ c. search needs)
     (λ c. search needs)
     (λ c. c .before .before .enter .ensures .refuses (c .before .if1 .taken) _ _ _ (c .refused .ensures) refl)
-    (λ c κs. let z = c .before .before .before .enter .ensures .sizes (c .before .before .if1 .left) in (z .0 .0, z .0 .1, z .0 .2, z .0 .3, z .0 .4, z .0 .5, z .0 .6, z .0 .7, z .1))
+    (λ c κs. let z = c .before .before .before .enter .ensures .sizes (c .before .before .if1 .left) in (z .0 .0, z .0 .1, z .0 .2, z .0 .3, z .1))
     (λ c. search needs)
     (λ c. search needs)
     (λ c. c .before .before .before .before .write-out-in .ensures _ (c .before .before .before .before .before .before .before .before .enter .ensures .given (c .before .before .before .before .before .before .before .if1 .left))))

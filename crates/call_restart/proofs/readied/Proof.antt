@@ -13,7 +13,7 @@ redone-requires : tie.Need-redone-requires
 redone-requires c κs =
     let q = c .before .before .before .before .before .before .before .before .before .before .before .pre in
     let k = c .before .before .before .before .before .before .before .judged .ensures .known (not-false _ (c .before .before .before .before .before .if1 .left)) in
-    (c .before .before .before .copy .kept .0 ∙ q .0, q .1, q .3, q .4, k .within)
+    ((c .before .before .before .copy .kept .0 ∙ q .0 .0, q .0 .1, q .1 .2, q .1 .3), k .within)
 
 returns-2 : tie.Need-returns-2
 returns-2 c = copy-redone (c .before .before .before .before .before .before .copy .ensures) (c .before .before .before .before .before .before .before .before .before .before .judged .ensures .known (not-false _ (c .before .before .before .before .before .before .before .before .if1 .left))) (c .before .before .redone .ensures)

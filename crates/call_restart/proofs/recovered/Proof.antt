@@ -17,7 +17,7 @@ settle-requires : tie.Need-settle-requires
 settle-requires c κs =
     let q = c .before .before .before .before .before .before .before .before .before .before .before .before .before .before .before .before .before .before .before .before .pre in
     let k = c .before .before .before .before .before .before .before .before .before .before .before .before .before .readied .ensures .known (not-false _ (c .before .before .before .before .before .before .before .before .before .if1 .left)) in
-    (c .before .before .before .before .before .before .before .before .before .before .before .before .before .readied .kept .0 ∙ q .0, q .1, c .before .before .before .before .copy .kept .0 ∙ q .3, q .4, k .low)
+    ((c .before .before .before .before .before .before .before .before .before .before .before .before .before .readied .kept .0 ∙ q .0 .0, q .0 .1, c .before .before .before .before .copy .kept .0 ∙ q .0 .2, q .0 .3), k .low)
 
 returns-2 : tie.Need-returns-2
 returns-2 c =
@@ -45,7 +45,7 @@ store-slots-requires c κs =
     let on = not-false _ (c .before .before .before .before .before .before .before .before .before .before .before .before .before .before .before .before .before .before .before .before .before .before .if1 .left) in
     let k = settled-longer (v .known on) (v .ready on) (c .before .before .before .before .before .before .before .before .before .before .before .before .before .before .before .before .before .copy .ensures) _ (c .before .before .before .before .before .before .before .before .before .before .before .before .settle .ensures) in
     let w = settled-within (v .known on) (v .ready on) (c .before .before .before .before .before .before .before .before .before .before .before .before .before .before .before .before .before .copy .ensures) _ (c .before .before .before .before .before .before .before .before .before .before .before .before .settle .ensures) in
-    (k, omega (arith, w, q .4), omega (arith, w, q .5), omega (arith, w, c .before .before .before .before .before .before .before .before .before .before .before .before .settle .kept .1 .0, c .before .before .before .before .before .before .before .before .before .before .before .before .before .before .before .before .before .copy .kept .0, q .3))
+    (k, omega (arith, w, q .0 .3), omega (arith, w, q .1 .2), omega (arith, w, c .before .before .before .before .before .before .before .before .before .before .before .before .settle .kept .1 .0, c .before .before .before .before .before .before .before .before .before .before .before .before .before .before .before .before .before .copy .kept .0, q .0 .2))
 
 same-length-10 : tie.Need-same-length-10
 same-length-10 c = c .before .before .before .before .before .before .before .before .before .before .before .before .before .before .before .before .before .settle .kept .0 ∙ c .before .before .before .before .before .before .before .before .before .before .before .before .before .before .before .before .before .before .before .before .before .before .before .before .before .before .before .before .before .before .before .readied .kept .0

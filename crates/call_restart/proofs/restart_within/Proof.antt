@@ -18,7 +18,7 @@ recovered-requires : tie.Need-recovered-requires
 recovered-requires c κs =
     let a = c .before .before .before .before .before .before .before .before .before .before .before .before .args in
     let z = lengths-numbers (a .wp .now) (a .sp .now) (a .wl .now) (a .sl .now) (sym (c .before .before .before .before .lengths-ok .ensures) ∙ not-false _ (c .before .before .before .if1 .left)) in
-    (z .0, z .2, z .3 ∙ z .0, z .4, z .6, z .7 ∙ z .4)
+    ((z .0, z .2, z .4, z .6), (z .3 ∙ z .0, z .2, z .7 ∙ z .4, z .6))
 
 returns-2 : tie.Need-returns-2
 returns-2 c = c .before .before .before .before .before .before .recovered .ensures (c .before .before .before .before .before .before .before .before .before .before .before .before .before .before .before .before .before .before .before .args .d) (sym (c .before .before .before .before .before .before .before .before .before .before .before .lengths-ok .ensures) ∙ not-false _ (c .before .before .before .before .before .before .before .before .before .before .if1 .left))

@@ -26,7 +26,7 @@ returns-2 c n budget wp sp sl g =
 
 note-requires : tie.Need-note-requires
 unfolding kind-of
-note-requires c κs = let p = c .before .before .before .before .before .before .before .before .before .before .pre in (p .0, p .1, refl)
+note-requires c κs = let p = c .before .before .before .before .before .before .before .before .before .before .pre in (p .0, refl)
 
 returns-3 : tie.Need-returns-3
 unfolding kind-of

@@ -19,7 +19,7 @@ returns c budget sp sl g =
 updated-requires : tie.Need-updated-requires
 updated-requires c κs =
     let u = c .before .before .before .before .before .before .before .before .before .before .update-bar in
-    (omega (arith, c .before .before .before .before .before .before .before .before .if1 .left, u .ensures .0), c .before .before .before .before .before .before .before .before .before .before .before .before .before .before .before .before .before .pre .6 (u .result .row))
+    (omega (arith, c .before .before .before .before .before .before .before .before .if1 .left, u .ensures .0), c .before .before .before .before .before .before .before .before .before .before .before .before .before .before .before .before .before .pre .3 (u .result .row))
 
 returns-2 : tie.Need-returns-2
 unfolding kind-of

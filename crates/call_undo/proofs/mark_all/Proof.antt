@@ -19,7 +19,7 @@ loop-holds c = let a = c .before .before .args in (refl, refl, marking-start (a 
 
 mark-row-requires : tie.Need-mark-row-requires Inv-loop μ-loop
 mark-row-requires c κs =
-    let p = c .before .before .before .before .before .before .before .pre in
+    let p = c .before .before .before .before .before .before .before .pre .0 in
     let i = c .before .before .before .before .loop .inv in
     (omega (arith, p, i .0), p .1, omega (arith, p, i .1), p .3)
 
@@ -27,7 +27,7 @@ loop-again : tie.Need-loop-again Inv-loop μ-loop
 loop-again c =
     let l = c .before .before .before .before .before .before .before .before .before .before .before .loop in
     let u = c .before .before .before .before .before .before .mark-row in
-    (u .kept .0 ∙ l .inv .0, u .kept .1 .0 ∙ l .inv .1, marking-on (c .before .before .before .before .before .before .before .before .before .before .before .before .before .before .args .used) (l .i) (l .inv .2) (u .result) (c .before .before .before .before .before .before .before .before .before .before .loop-test .taken) (c .before .before .before .before .before .before .before .before .before .before .before .before .before .before .pre .4) (u .ensures))
+    (u .kept .0 ∙ l .inv .0, u .kept .1 .0 ∙ l .inv .1, marking-on (c .before .before .before .before .before .before .before .before .before .before .before .before .before .before .args .used) (l .i) (l .inv .2) (u .result) (c .before .before .before .before .before .before .before .before .before .before .loop-test .taken) (c .before .before .before .before .before .before .before .before .before .before .before .before .before .before .pre .1) (u .ensures))
 
 same-length : tie.Need-same-length Inv-loop μ-loop
 same-length c = c .before .loop .inv .0

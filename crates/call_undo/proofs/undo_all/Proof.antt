@@ -32,7 +32,7 @@ undo-newest-requires : tie.Need-undo-newest-requires Inv-loop μ-loop
 undo-newest-requires c κs =
     let p = c .before .before .before .before .before .before .before .before .before .pre in
     let i = c .before .before .before .before .before .before .loop .inv in
-    (omega (arith, p, i .0), p .1, omega (arith, p, i .1), p .3, omega (arith, c .before .before .before .if1 .left))
+    ((omega (arith, p, i .0), p .1, omega (arith, p, i .1), p .3), omega (arith, c .before .before .before .if1 .left))
 
 loop-again : tie.Need-loop-again Inv-loop μ-loop
 loop-again c =

@@ -32,10 +32,10 @@ returns-7 c =
     let a = c .before .before .before .before .args in
     let q = c .before .before .before .before .pre in
     elim (c .before .if1 .came) [
-      | inl y ↦ absurd (omega (arith, y .taken, q .2, c .before .before .match .rest .0 .0 .0 .1))
+      | inl y ↦ absurd (omega (arith, y .taken, q .1, c .before .before .match .rest .0 .0 .0 .1))
       | inr y ↦
           let r = c .before .before .match .rest in
-          let f = subst (Steps (a .rows) (a .marked) (a .t)) (sym (c .passed .ensures)) (passes (a .rows) (a .marked) (a .t) (past 8 (a .t .kind) (past 7 (a .t .kind) (past 6 (a .t .kind) (y .2 .left) (r .0 .0 .1)) (r .0 .1)) (r .1)) (q .3)) in
+          let f = subst (Steps (a .rows) (a .marked) (a .t)) (sym (c .passed .ensures)) (passes (a .rows) (a .marked) (a .t) (past 8 (a .t .kind) (past 7 (a .t .kind) (past 6 (a .t .kind) (y .2 .left) (r .0 .0 .1)) (r .0 .1)) (r .1)) (q .2)) in
           λ log bs x e h s w n. f log bs x h s w n
     ]
 

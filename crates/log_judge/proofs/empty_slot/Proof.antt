@@ -9,7 +9,7 @@ returns : tie.Need-returns
 returns c =
     let a = c .before .before .before .args in
     let q = c .before .before .before .pre in
-    slot-found _ (a .i) (a .m) (a .log .now) (q .0) (q .2) (rw (add-sub-cancel-left _ _) at (c .is-zero .ensures))
+    slot-found _ (a .i) (a .m) (a .log .now) (q .0 .0) (q .1) (rw (add-sub-cancel-left _ _) at (c .is-zero .ensures))
 
 pub empty-slot-spec : {M : Type 1} → statement M
 empty-slot-spec =

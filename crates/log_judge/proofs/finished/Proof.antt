@@ -9,7 +9,7 @@ returns : tie.Need-returns
 returns c =
     let a = c .before .before .before .args in
     let q = c .before .before .before .pre in
-    (rest-found _ (a .i) (a .m) (a .log .now) (q .0) (q .2) (c .is-zero .ensures), refl, refl, refl)
+    (rest-found _ (a .i) (a .m) (a .log .now) (q .0 .0) (q .1) (c .is-zero .ensures), refl, refl, refl)
 
 pub finished-spec : {M : Type 1} → statement M
 finished-spec =

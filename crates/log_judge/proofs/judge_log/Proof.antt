@@ -58,7 +58,7 @@ judge-slot-requires c κs =
     let a = c .before .before .before .before .before .before .before .before .before .args in
     let l = c .before .before .before .before .before .before .loop in
     let q = c .before .before .before .before .before .before .before .before .before .pre in
-    (q .0, q .1, c .before .before .before .before .before .loop-test .taken, going-low (a .n) (a .m) (a .log .now) (l .i) (l .rows) (l .marked) (q .1) (l .inv .1))
+    (q, c .before .before .before .before .before .loop-test .taken, going-low (a .n) (a .m) (a .log .now) (l .i) (l .rows) (l .marked) (q .1) (l .inv .1))
 
 returns-3 : tie.Need-returns-3 Inv-loop μ-loop
 returns-3 c =

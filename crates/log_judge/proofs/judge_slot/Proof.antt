@@ -9,7 +9,7 @@ step-requires : tie.Need-step-requires
 step-requires c κs =
     let p = c .before .before .before .before .pre in
     let t = c .before .before .batch-at .ensures (c .if1 .taken) in
-    (p .0, p .1, search needs, t .small, p .3)
+    (p .0, search needs, t .small, p .2)
 
 returns : tie.Need-returns
 returns c =

@@ -26,7 +26,7 @@ returns-4 c =
       (λ e. clash (sym (c .at-once .ensures .0) ∙ e)),
       λ e.
           subst (Done (a .n) (a .m) (a .pages .now) (a .log .now) (a .i) (a .pages .now)) (sym (c .at-once .ensures .1))
-          (slide-higher (a .n) (a .m) (a .i) _ _ _ _ (a .pages .now) (a .log .now) (p .4)
+          (slide-higher (a .n) (a .m) (a .i) _ _ _ _ (a .pages .now) (a .log .now) (p .1)
           (as-part slot-size (a .i) (a .log .now) 0 (c .before .before .before .before .before .before .before .before .before .get32 .ensures)) (as-part slot-size (a .i) (a .log .now) 16 (c .before .before .before .before .before .before .before .before .get322 .ensures))
           refl (search needs) (search needs) refl (search needs) _
           (as-part page-size (c .before .before .before .before .before .before .before .before .get322 .result / 4194304) (a .pages .now) 8 (c .before .before .get323 .ensures)) (search needs)),
@@ -48,7 +48,7 @@ returns-6 c =
       (λ e. clash (sym (c .at-once2 .ensures .0) ∙ e)),
       λ e.
           subst (Done (a .n) (a .m) (a .pages .now) (a .log .now) (a .i) _) (sym (c .at-once2 .ensures .1))
-          (slide-done (a .n) (a .m) (a .i) _ _ _ _ (a .pages .now) (a .log .now) (p .4)
+          (slide-done (a .n) (a .m) (a .i) _ _ _ _ (a .pages .now) (a .log .now) (p .1)
           (as-part slot-size (a .i) (a .log .now) 0 (c .before .before .before .before .before .before .before .before .before .before .before .before .before .before .before .before .get32 .ensures)) (as-part slot-size (a .i) (a .log .now) 16 (c .before .before .before .before .before .before .before .before .before .before .before .before .before .before .before .get322 .ensures))
           refl (search needs) (search needs) refl (search needs) _ _ _ _ _
           (as-part page-size (c .before .before .before .before .before .before .before .before .before .before .before .before .before .before .before .get322 .result / 4194304) (a .pages .now) 8 (c .before .before .before .before .before .before .before .before .before .get323 .ensures)) (search needs)

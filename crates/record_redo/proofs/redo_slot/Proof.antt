@@ -16,7 +16,7 @@ returns c =
     let a = c .before .before .before .before .before .args in (
       search needs,
       λ xs own q shows stands few keeps.
-          no-page (a .n) (a .m) (a .i) _ (a .pages .now) (a .log .now) (c .before .before .before .before .before .pre .4) (as-part slot-size (a .i) (a .log .now) 0 (c .before .get32 .ensures)) (ap (λ (k : ℕ). shape (kind-of k)) (c .if1 .taken)) xs own q shows stands keeps,
+          no-page (a .n) (a .m) (a .i) _ (a .pages .now) (a .log .now) (c .before .before .before .before .before .pre .1) (as-part slot-size (a .i) (a .log .now) 0 (c .before .get32 .ensures)) (ap (λ (k : ℕ). shape (kind-of k)) (c .if1 .taken)) xs own q shows stands keeps,
     )
 
 returns-2 : tie.Need-returns-2
@@ -25,7 +25,7 @@ returns-2 c =
     let a = c .before .before .before .before .before .before .args in (
       search needs,
       λ xs own q shows stands few keeps.
-          no-page (a .n) (a .m) (a .i) _ (a .pages .now) (a .log .now) (c .before .before .before .before .before .before .pre .4) (as-part slot-size (a .i) (a .log .now) 0 (c .before .before .get32 .ensures)) (ap (λ (k : ℕ). shape (kind-of k)) (c .if2 .taken)) xs own q shows stands keeps,
+          no-page (a .n) (a .m) (a .i) _ (a .pages .now) (a .log .now) (c .before .before .before .before .before .before .pre .1) (as-part slot-size (a .i) (a .log .now) 0 (c .before .before .get32 .ensures)) (ap (λ (k : ℕ). shape (kind-of k)) (c .if2 .taken)) xs own q shows stands keeps,
     )
 
 returns-3 : tie.Need-returns-3

@@ -11,25 +11,25 @@ returns : tie.Need-returns
 returns c =
     let a = c .before .before .before .args in
     let p = c .before .before .before .pre in
-    λ l e r. sym (more-than-logged (a .m) (a .stored) (a .wl .now) (a .sl .now) (p .0) (p .1) l r (omega (arith, c .if1 .taken, e)))
+    λ l e r. sym (more-than-logged (a .m) (a .stored) (a .wl .now) (a .sl .now) (p .0 .0) (p .1 .0) l r (omega (arith, c .if1 .taken, e)))
 
 returns-2 : tie.Need-returns-2
 returns-2 c =
     let a = c .before .before .before .before .args in
     let p = c .before .before .before .before .pre in
-    λ l e r. sym (more-than-slots (a .m) (a .stored) (a .wl .now) (a .sl .now) (p .0) (p .1) l r (c .if2 .taken))
+    λ l e r. sym (more-than-slots (a .m) (a .stored) (a .wl .now) (a .sl .now) (p .0 .0) (p .1 .0) l r (c .if2 .taken))
 
 returns-3 : tie.Need-returns-3
 returns-3 c =
     let a = c .before .before .before .before .before .before .args in
     let p = c .before .before .before .before .before .before .pre in
-    λ l e r. sym (other-records (a .m) (a .stored) (a .wl .now) (a .sl .now) (p .0) (p .1) l r (omega (arith, c .before .before .before .if1 .left, e)) (c .before .same-part .ensures) (not-true _ (c .if3 .taken)))
+    λ l e r. sym (other-records (a .m) (a .stored) (a .wl .now) (a .sl .now) (p .0 .0) (p .1 .0) l r (omega (arith, c .before .before .before .if1 .left, e)) (c .before .same-part .ensures) (not-true _ (c .if3 .taken)))
 
 returns-4 : tie.Need-returns-4
 returns-4 c =
     let a = c .before .before .before .before .before .before .before .args in
     let p = c .before .before .before .before .before .before .before .pre in
-    λ l e r. rest-decides (a .m) (a .stored) (a .wl .now) (a .sl .now) (p .0) (p .1) l r (omega (arith, c .before .before .before .before .if1 .left, e)) (c .before .before .same-part .ensures) (not-false _ (c .before .if3 .left)) (c .zero-from .ensures)
+    λ l e r. rest-decides (a .m) (a .stored) (a .wl .now) (a .sl .now) (p .0 .0) (p .1 .0) l r (omega (arith, c .before .before .before .before .if1 .left, e)) (c .before .before .same-part .ensures) (not-false _ (c .before .if3 .left)) (c .zero-from .ensures)
 
 pub stored-ok-spec : {M : Type 1} → statement M
 stored-ok-spec =

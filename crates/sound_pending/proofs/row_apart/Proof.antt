@@ -14,19 +14,19 @@ abbrev μ-loop : tie.MeasureT-loop
 μ-loop log m i rows row j₀ j = 8 - j
 
 loop-holds : tie.Need-loop-holds Inv-loop μ-loop
-loop-holds c = let a = c .before .before .args in (omega (arith, c .before .before .pre .2), apart-start (a .m) (a .log .now) (a .t3) (a .i))
+loop-holds c = let a = c .before .before .args in (omega (arith, c .before .before .pre .1), apart-start (a .m) (a .log .now) (a .t3) (a .i))
 
 returns : tie.Need-returns Inv-loop μ-loop
 returns c =
     let a = c .before .before .before .before .before .before .before .args in
     let l = c .before .before .before .before .loop in
-    apart-off (a .m) (a .log .now) (a .t3) (a .i) (l .j) (l .inv .1) (c .before .before .before .before .before .before .before .pre .2) (c .before .before .before .loop-test .taken) _ (c .before .lines-free .ensures) (not-true _ (c .if1 .taken))
+    apart-off (a .m) (a .log .now) (a .t3) (a .i) (l .j) (l .inv .1) (c .before .before .before .before .before .before .before .pre .1) (c .before .before .before .loop-test .taken) _ (c .before .lines-free .ensures) (not-true _ (c .if1 .taken))
 
 loop-again : tie.Need-loop-again Inv-loop μ-loop
 loop-again c =
     let a = c .before .before .before .before .before .before .before .args in
     let l = c .before .before .before .before .loop in
-    (search needs, apart-on (a .m) (a .log .now) (a .t3) (a .i) (l .j) (l .inv .1) (c .before .before .before .before .before .before .before .pre .2) (c .before .before .before .loop-test .taken) _ (c .before .lines-free .ensures) (not-false _ (c .if1 .left)))
+    (search needs, apart-on (a .m) (a .log .now) (a .t3) (a .i) (l .j) (l .inv .1) (c .before .before .before .before .before .before .before .pre .1) (c .before .before .before .loop-test .taken) _ (c .before .lines-free .ensures) (not-false _ (c .if1 .left)))
 
 returns-2 : tie.Need-returns-2 Inv-loop μ-loop
 returns-2 c =

@@ -14,7 +14,7 @@ returns c s h =
     let d = c .before .before .before .before .before .before .before .before .before .before .before .before .find-add .ensures s h in
     let g = c .before .before .before .before .before .before .before .data-row .ensures .0 in
     put-at (kind-of (a .kind)) (a .batch) (a .previous) (a .k) (a .v) s (c .before .before .before .before .before .before .before .before .before .before .before .before .find-add .result .page) _ (d .page) g
-    (c .before .before .before .before .emit .ensures (find-add (a .k) s .run) (d .run) (data-keeping (d .run) (c .before .before .before .before .before .before .before .before .before .before .before .before .before .before .before .before .before .pre .3) (a .kind) (a .batch) (a .previous) _ (a .k) (a .v) _ (c .before .before .before .before .before .before .before .before .before .before .before .before .before .before .before .before .before .pre .4) (f .k .fits) (f .v .fits) g))
+    (c .before .before .before .before .emit .ensures (find-add (a .k) s .run) (d .run) (data-keeping (d .run) (c .before .before .before .before .before .before .before .before .before .before .before .before .before .before .before .before .before .pre .0 .3) (a .kind) (a .batch) (a .previous) _ (a .k) (a .v) _ (c .before .before .before .before .before .before .before .before .before .before .before .before .before .before .before .before .before .pre .1) (f .k .fits) (f .v .fits) g))
 
 pub put-record-spec : {M : Type 1} → statement M
 put-record-spec =

@@ -50,7 +50,7 @@ passed-requires c κs = c .before .stands-under .ensures .1 (not-false _ (c .if3
 add-count : tie.Need-add-count Inv-loop μ-loop Inv-levels μ-levels
 add-count c =
     let i = c .before .before .before .before .before .before .before .before .before .before .before .loop .inv in
-    record { fits = omega (arith, i .1, i .2, c .before .before .before .before .before .before .before .before .before .before .before .before .before .before .before .before .before .before .pre .1) }
+    record { fits = omega (arith, i .1, i .2, c .before .before .before .before .before .before .before .before .before .before .before .before .before .before .before .before .before .before .pre .0 .1) }
 
 loop-again : tie.Need-loop-again Inv-loop μ-loop Inv-levels μ-levels
 loop-again c =
@@ -64,7 +64,7 @@ loop-again c =
       omega (arith, l .inv .1, c .before .before .before .before .before .before .before .before .before .if1 .left),
       l .inv .2,
       goes-on _ _ _ _ _ _ _ _ _ _ _ (l .inv .3) (c .before .before .before .before .before .before .before .before .before .before .loop-test .taken) (x .result) (x .ensures) (marks (a .map)) (a .n)
-          (read-all-length 128 page-fields (a .n) (a .pages .now)) (s .pre .2) (r .result) (r .ensures) (c .before .before .before .before .before .before .before .before .before .if1 .left)
+          (read-all-length 128 page-fields (a .n) (a .pages .now)) (s .pre .1) (r .result) (r .ensures) (c .before .before .before .before .before .before .before .before .before .if1 .left)
           (sym (c .before .before .before .before .before .before .before .page-ok .ensures) ∙ not-false _ (c .before .before .before .before .before .before .if2 .left))
           (sym (u .ensures .0) ∙ not-false _ (c .before .before .before .if3 .left)) (c .before .before .passed .result) (u .ensures .1 (not-false _ (c .before .before .before .if3 .left))) (c .before .before .passed .ensures),
     )
@@ -76,7 +76,7 @@ returns c =
     let l = c .before .before .before .before .before .before .loop in
     let r = c .before .before .before .before .ready2 in
     judged _ _ _ _ _ _ _ _ _ _ _ (l .inv .3) (c .before .before .before .before .before .loop-test .left) (r .result) (r .ensures) (sym (c .before .before .before .level-ended .ensures) ∙ not-false _ (c .before .before .if4 .left))
-    (a .n) (marks (a .map)) (c .count-used .result) (c .before .if5 .taken) (read-all-length 128 page-fields (a .n) (a .pages .now)) (s .pre .2) (c .count-used .ensures)
+    (a .n) (marks (a .map)) (c .count-used .result) (c .before .if5 .taken) (read-all-length 128 page-fields (a .n) (a .pages .now)) (s .pre .1) (c .count-used .ensures)
 
 sub-start-above : tie.Need-sub-start-above Inv-loop μ-loop Inv-levels μ-levels
 sub-start-above c =
@@ -93,7 +93,7 @@ levels-again c =
     let a = s .args in
     let l = c .before .before .before .before .before .before .loop in
     let r = c .before .before .before .before .ready2 in (
-      omega (arith, l .inv .1, l .inv .2, s .pre .1, c .before .if5 .left),
+      omega (arith, l .inv .1, l .inv .2, s .pre .0 .1, c .before .if5 .left),
       goes-down _ _ _ _ _ _ _ _ _ _ _ (l .inv .3) (c .before .before .before .before .before .loop-test .left) (r .result) (r .ensures) (sym (c .before .before .before .level-ended .ensures) ∙ not-false _ (c .before .before .if4 .left))
           (a .n) (c .start-above .result) (c .before .if5 .left) (read-all-length 128 page-fields (a .n) (a .pages .now)) (c .start-above .ensures),
     )
@@ -110,7 +110,7 @@ returns-3 c =
     let l = c .before .before .before .before .before .loop in
     let x = c .before .before .nth-page2 in
     not-fit _ _ _ _ _ _ _ _ _ _ _ (l .inv .3) (c .before .before .before .before .loop-test .taken) (x .result) (x .ensures) (marks (a .map)) (a .n)
-    (read-all-length 128 page-fields (a .n) (a .pages .now)) (s .pre .2) (sym (c .before .page-ok .ensures) ∙ not-true _ (c .if2 .taken))
+    (read-all-length 128 page-fields (a .n) (a .pages .now)) (s .pre .1) (sym (c .before .page-ok .ensures) ∙ not-true _ (c .if2 .taken))
 
 returns-4 : tie.Need-returns-4 Inv-loop μ-loop Inv-levels μ-levels
 returns-4 c =
@@ -120,7 +120,7 @@ returns-4 c =
     let x = c .before .before .before .before .before .nth-page2 in
     let r = c .before .before .ready in
     not-under _ _ _ _ _ _ _ _ _ _ _ (l .inv .3) (c .before .before .before .before .before .before .before .loop-test .taken) (x .result) (x .ensures) (marks (a .map)) (a .n)
-    (read-all-length 128 page-fields (a .n) (a .pages .now)) (s .pre .2) (r .result) (r .ensures) (sym (c .before .stands-under .ensures .0) ∙ not-true _ (c .if3 .taken))
+    (read-all-length 128 page-fields (a .n) (a .pages .now)) (s .pre .1) (r .result) (r .ensures) (sym (c .before .stands-under .ensures .0) ∙ not-true _ (c .if3 .taken))
 
 returns-5 : tie.Need-returns-5 Inv-loop μ-loop Inv-levels μ-levels
 returns-5 c =

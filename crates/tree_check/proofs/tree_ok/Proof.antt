@@ -22,7 +22,7 @@ returns-2 c =
 levels-ok-requires : tie.Need-levels-ok-requires
 levels-ok-requires c κs =
     let s = c .before .before .before .before .before .before .before in
-    (s .pre .0, s .pre .1, marks-are (pages-of (s .args .n) (s .args .pages .now)) _ (c .before .before .before .before .before .nth-page .ensures) (c .before .before .before .if1 .left))
+    (s .pre, marks-are (pages-of (s .args .n) (s .args .pages .now)) _ (c .before .before .before .before .before .nth-page .ensures) (c .before .before .before .if1 .left))
 
 returns-3 : tie.Need-returns-3
 returns-3 c =

@@ -11,7 +11,7 @@ use Rattle.tree_write.specs.Shows.{Shows}
 use Rattle.tree_remove.specs.Rows.{merge-is, merge-keeping, redistribute-is, redistribute-keeping}
 
 emit-requires : tie.Need-emit-requires
-emit-requires c κs = let p = c .before .before .before .before .before .before .before .before .before .before .before .before .before .pre in (p .0, p .1, p .2, p .3, c .before .before .merge-row .ensures .1)
+emit-requires c κs = let p = c .before .before .before .before .before .before .before .before .before .before .before .before .before .pre in (p, c .before .before .merge-row .ensures .1)
 
 returns : tie.Need-returns
 returns c s h =
@@ -27,7 +27,7 @@ returns c s h =
     (c .before .before .before .before .emit .ensures s h (merge-keeping h few (a .p) (a .l) (a .r) (x .result) (y .result) i j _ _ e g (c .before .before .before .before .before .before .before .before .before .before .before .before .before .before .before .before .before .before .fits .r .fits)))
 
 emit-requires-2 : tie.Need-emit-requires-2
-emit-requires-2 c κs = let p = c .before .before .before .before .before .before .before .before .before .before .before .before .before .before .pre in (p .0, p .1, p .2, p .3, c .before .before .redistribute-row .ensures .1)
+emit-requires-2 c κs = let p = c .before .before .before .before .before .before .before .before .before .before .before .before .before .before .pre in (p, c .before .before .redistribute-row .ensures .1)
 
 link-child-requires : tie.Need-link-child-requires
 link-child-requires c κs = let p = c .before .before .before .before .before .before .before .before .before .before .before .before .before .before .before .before .before .before .before .before .before .pre in (omega (arith, p, c .before .before .before .before .before .before .emit2 .kept .0), p .1, omega (arith, p, c .before .before .before .before .before .before .emit2 .kept .1 .0), p .3)

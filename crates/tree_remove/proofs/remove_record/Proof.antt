@@ -13,7 +13,7 @@ emit-requires c κs =
     let p = c .before .before .before .before .before .before .before .before .before .before .before .before .before .before .before .before .before .before .before .pre in
     let d = c .before .before .before .before .before .before .before .descend-remove .kept in
     let r = c .before .before .before .before .before .before .before .before .before .before .before .before .before .before .raise-root .kept in
-    (omega (arith, p, r .0, d .0), p .1, omega (arith, p, r .1 .0, d .1 .0), p .3, c .before .before .data-row .ensures .1)
+    ((omega (arith, p .0, r .0, d .0), p .0 .1, omega (arith, p .0, r .1 .0, d .1 .0), p .0 .3), c .before .before .data-row .ensures .1)
 
 returns : tie.Need-returns
 returns c s h =
@@ -23,7 +23,7 @@ returns c s h =
     let d = c .before .before .before .before .before .before .before .before .before .before .before .before .descend-remove .ensures (raise-root s) (c .before .before .before .before .before .before .before .before .before .before .before .before .before .before .before .before .before .before .before .raise-root .ensures s h) in
     let g = c .before .before .before .before .before .before .before .data-row .ensures .0 in
     removed-at (kind-of (a .kind)) (a .batch) (a .previous) (a .k) (a .v) s (c .before .before .before .before .before .before .before .before .before .before .before .before .descend-remove .result .page) _ (d .page) g
-    (c .before .before .before .before .emit .ensures (leaf-at (a .k) s .run) (d .run) (data-keeping (d .run) (p .3) (a .kind) (a .batch) (a .previous) _ (a .k) (a .v) _ (p .4) (f .k .fits) (f .v .fits) g))
+    (c .before .before .before .before .emit .ensures (leaf-at (a .k) s .run) (d .run) (data-keeping (d .run) (p .0 .3) (a .kind) (a .batch) (a .previous) _ (a .k) (a .v) _ (p .1) (f .k .fits) (f .v .fits) g))
 
 pub remove-record-spec : {M : Type 1} → statement M
 remove-record-spec =

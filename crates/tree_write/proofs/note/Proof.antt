@@ -22,7 +22,7 @@ returns-3 c =
     let a = c .before .before .before .before .before .before .before .before .before .before .before .args in (
       omega arith,
       λ l. omega (arith, c .before .before .before .before .before .before .if2 .left),
-      λ n wp s h. emit-notes h (kind-of (a .kind)) (a .batch) (a .previous) _ _ (c .before .before .before .before .before .before .before .before .before .before .before .pre .2) (omega (arith, c .before .before .before .before .before .before .before .before .if1 .left)) (omega (arith, c .before .before .before .before .before .before .if2 .left)) (add-one (a .t .logged)) (c .before .before .before .before .before .batch-row .ensures .0)
+      λ n wp s h. emit-notes h (kind-of (a .kind)) (a .batch) (a .previous) _ _ (c .before .before .before .before .before .before .before .before .before .before .before .pre .1) (omega (arith, c .before .before .before .before .before .before .before .before .if1 .left)) (omega (arith, c .before .before .before .before .before .before .if2 .left)) (add-one (a .t .logged)) (c .before .before .before .before .before .batch-row .ensures .0)
           (c .before .before .before .write-record .ensures) (c .before .before .before .write-record .kept .0),
     )
 
