@@ -9,7 +9,7 @@ use def_layout::ROOM;
 use def_layout::SLOT_SIZE;
 use record_apply::Record;
 use record_apply::apply;
-use record_apply::parts;
+use record_apply::roles::parts;
 use record_fit::fits;
 use record_leaf::slide_made;
 use record_pages::page_at;
