@@ -21,7 +21,7 @@ use def_model::Refusal;
 use sound_register::Standing;
 use sound_register::standing_of;
 ghost use mathlib.Core.Path.{_≡_};
-ghost use mathlib.Core.Bool.{true};
+ghost use mathlib.Core.Bool.{false};
 ghost use Prim.Native.Nat.{ℕ};
 ghost use lib.ListN.{length};
 ghost use Rattle.def_model.specs.OnBytes as calls;
@@ -29,9 +29,9 @@ ghost use Rattle.area_lengths.specs.Lent.{lent};
 ghost use Rattle.call_reply.specs.Replies.{Replies};
 ghost use Rattle.call_register.specs.Entered.{Entered};
 
-// What a call finds first: that it is refused, and why; or how many pages and slots there are, and where the register stands.
+// What a call finds first: how many pages and slots there are, and where the register stands; or, where it is not ok, why.
 struct Entry {
-    refused: bool,
+    ok: bool,
     why: Refusal,
     pages: usize,
     slots: usize,
@@ -39,7 +39,7 @@ struct Entry {
 }
 
 fn barred(why: Refusal) -> Entry
-    ensures { λ e. ⌜ (e .refused ≡ true) × (e .why ≡ why) ⌝ }
+    ensures { λ e. ⌜ (e .ok ≡ false) × (e .why ≡ why) ⌝ }
 {
     let standing = Standing {
         ok: false,
@@ -48,7 +48,7 @@ fn barred(why: Refusal) -> Entry
         free: 0,
     };
     Entry {
-        refused: true,
+        ok: false,
         why,
         pages: 0,
         slots: 0,
@@ -73,7 +73,7 @@ fn enter(wp: &[u8], sp: &[u8], wl: &[u8], sl: &[u8], d: Desk, p: u32) -> Entry
         return barred(Refusal::Unsound);
     }
     Entry {
-        refused: false,
+        ok: true,
         why: Refusal::Unsound,
         pages,
         slots,
@@ -86,7 +86,7 @@ pub fn begin(wp: &[u8], sp: &[u8], wl: &mut [u8], sl: &[u8], d: Desk) -> Reply
     ensures { λ r. ⌜ ((budget : ℕ) → Replies calls.begin (lent (now (wp .entry)) (now (sp .entry)) (now (wl .entry)) (now (sl .entry))) d budget r (lent (now (wp .entry)) (now (sp .entry)) (now (wl .exit)) (now (sl .entry)))) ⌝ }
 {
     let e = enter(wp, sp, wl, sl, d, 0);
-    if e.refused {
+    if !e.ok {
         let why = e.why;
         return refused(why, d);
     }
@@ -99,7 +99,7 @@ pub fn fetch(wp: &[u8], sp: &[u8], wl: &[u8], sl: &[u8], d: Desk, b: u32, k: u32
     ensures { λ r. ⌜ ((budget : ℕ) → Replies (calls.fetch b k) (lent (now (wp .entry)) (now (sp .entry)) (now (wl .entry)) (now (sl .entry))) d budget r (lent (now (wp .entry)) (now (sp .entry)) (now (wl .entry)) (now (sl .entry)))) ⌝ }
 {
     let e = enter(wp, sp, wl, sl, d, 0);
-    if e.refused {
+    if !e.ok {
         let why = e.why;
         return refused(why, d);
     }
@@ -111,7 +111,7 @@ pub fn next(wp: &[u8], sp: &[u8], wl: &[u8], sl: &[u8], d: Desk, b: u32, k: u32)
     ensures { λ r. ⌜ ((budget : ℕ) → Replies (calls.next b k) (lent (now (wp .entry)) (now (sp .entry)) (now (wl .entry)) (now (sl .entry))) d budget r (lent (now (wp .entry)) (now (sp .entry)) (now (wl .entry)) (now (sl .entry)))) ⌝ }
 {
     let e = enter(wp, sp, wl, sl, d, 0);
-    if e.refused {
+    if !e.ok {
         let why = e.why;
         return refused(why, d);
     }
@@ -132,7 +132,7 @@ pub fn insert(
     ensures { λ r. ⌜ ((budget : ℕ) → Replies (calls.insert b k v) (lent (now (wp .entry)) (now (sp .entry)) (now (wl .entry)) (now (sl .entry))) d budget r (lent (now (wp .exit)) (now (sp .entry)) (now (wl .exit)) (now (sl .entry)))) ⌝ }
 {
     let e = enter(wp, sp, wl, sl, d, 0);
-    if e.refused {
+    if !e.ok {
         let why = e.why;
         return refused(why, d);
     }
@@ -145,7 +145,7 @@ pub fn delete(wp: &mut [u8], sp: &[u8], wl: &mut [u8], sl: &[u8], d: Desk, b: u3
     ensures { λ r. ⌜ ((budget : ℕ) → Replies (calls.delete b k) (lent (now (wp .entry)) (now (sp .entry)) (now (wl .entry)) (now (sl .entry))) d budget r (lent (now (wp .exit)) (now (sp .entry)) (now (wl .exit)) (now (sl .entry)))) ⌝ }
 {
     let e = enter(wp, sp, wl, sl, d, 0);
-    if e.refused {
+    if !e.ok {
         let why = e.why;
         return refused(why, d);
     }
@@ -166,7 +166,7 @@ pub fn commit_within(
     ensures { λ r. ⌜ Replies (calls.commit b) (lent (now (wp .entry)) (now (sp .entry)) (now (wl .entry)) (now (sl .entry))) d budget r (lent (now (wp .entry)) (now (sp .entry)) (now (wl .exit)) (now (sl .exit))) ⌝ }
 {
     let e = enter(wp, sp, wl, sl, d, 0);
-    if e.refused {
+    if !e.ok {
         let why = e.why;
         return refused(why, d);
     }
@@ -179,7 +179,7 @@ pub fn abort(wp: &mut [u8], sp: &[u8], wl: &mut [u8], sl: &[u8], d: Desk, b: u32
     ensures { λ r. ⌜ ((budget : ℕ) → Replies (calls.abort b) (lent (now (wp .entry)) (now (sp .entry)) (now (wl .entry)) (now (sl .entry))) d budget r (lent (now (wp .exit)) (now (sp .entry)) (now (wl .exit)) (now (sl .entry)))) ⌝ }
 {
     let e = enter(wp, sp, wl, sl, d, 0);
-    if e.refused {
+    if !e.ok {
         let why = e.why;
         return refused(why, d);
     }
@@ -200,7 +200,7 @@ pub fn write_out_within(
     ensures { λ r. ⌜ Replies (calls.write-out p) (lent (now (wp .entry)) (now (sp .entry)) (now (wl .entry)) (now (sl .entry))) d budget r (lent (now (wp .entry)) (now (sp .exit)) (now (wl .entry)) (now (sl .exit))) ⌝ }
 {
     let e = enter(wp, sp, wl, sl, d, p);
-    if e.refused {
+    if !e.ok {
         let why = e.why;
         return refused(why, d);
     }
