@@ -35,10 +35,10 @@ Sizes n m wp sp wl sl d st =
     HasAreas n m wp wl × HasAreas n m sp sl × (d .stored ≤ d .logged) × (d .logged ≤ m) × (st .pending ≤ 16384) × LowRows (d .rows)
 
 pub record Entered (wp sp wl sl : List ℕ) (d : Desk) (p : ℕ) (e : Entry) : Type 0 where
-  pub refuses : e .refused ≡ true → (c : Call) (budget : ℕ) (r : Reply) → (r .answer ≡ Refused (e .why)) × (r .desk ≡ d) → names c ≡ some p
+  pub refuses : e .ok ≡ false → (c : Call) (budget : ℕ) (r : Reply) → (r .answer ≡ Refused (e .why)) × (r .desk ≡ d) → names c ≡ some p
       → Replies c (lent wp sp wl sl) d budget r (lent wp sp wl sl)
-  pub sizes : e .refused ≡ false → Sizes (e .pages) (e .slots) wp sp wl sl d (e .standing) × (p < e .pages)
-  pub given : e .refused ≡ false → Given (e .pages) (e .slots) wp sp wl sl d (e .standing)
+  pub sizes : e .ok ≡ true → Sizes (e .pages) (e .slots) wp sp wl sl d (e .standing) × (p < e .pages)
+  pub given : e .ok ≡ true → Given (e .pages) (e .slots) wp sp wl sl d (e .standing)
 
 -- ---- which it is
 
@@ -47,26 +47,26 @@ low-rows {wl = wl} {l = l} m few k =
     subst LowRows (sym (k .rows)) (judge.accepted-low m wl l few (record { reads = k .reads; holds = k .holds }))
 
 module _ (wp sp wl sl : List ℕ) (d : Desk) (p : ℕ) (e : Entry) where
-  stopped : (why : Refusal) → (e .refused ≡ true) × (e .why ≡ why) → ((c : Call) (budget : ℕ) (r : Reply) → names c ≡ some p → r .answer ≡ Refused why → r .desk ≡ d → Replies c (lent wp sp wl sl) d budget r (lent wp sp wl sl)) → Entered wp sp wl sl d p e
+  stopped : (why : Refusal) → (e .ok ≡ false) × (e .why ≡ why) → ((c : Call) (budget : ℕ) (r : Reply) → names c ≡ some p → r .answer ≡ Refused why → r .desk ≡ d → Replies c (lent wp sp wl sl) d budget r (lent wp sp wl sl)) → Entered wp sp wl sl d p e
   stopped why h f =
       record {
         refuses = λ t c budget r a q. f c budget r q (a .0 ∙ ap Refused (h .1)) (a .1);
-        sizes = λ t. clash (sym (h .0) ∙ t);
-        given = λ t. clash (sym (h .0) ∙ t);
+        sizes = λ t. clash (sym t ∙ h .0);
+        given = λ t. clash (sym t ∙ h .0);
       }
 
-  pub entered-1 : (e .refused ≡ true) × (e .why ≡ Lengths) → lengths-ok (lent wp sp wl sl) ≡ false → Entered wp sp wl sl d p e
+  pub entered-1 : (e .ok ≡ false) × (e .why ≡ Lengths) → lengths-ok (lent wp sp wl sl) ≡ false → Entered wp sp wl sl d p e
   entered-1 h f = stopped Lengths h (λ c budget r q. by-1 wp sp wl sl d p budget r c q f)
 
   module _ (lens : lengths-ok (lent wp sp wl sl) ≡ true) where
-    pub entered-2 : (e .refused ≡ true) × (e .why ≡ PageNumber) → length wp / 128 ≤ p → Entered wp sp wl sl d p e
+    pub entered-2 : (e .ok ≡ false) × (e .why ≡ PageNumber) → length wp / 128 ≤ p → Entered wp sp wl sl d p e
     entered-2 h f = stopped PageNumber h (λ c budget r q. by-2 wp sp wl sl d p budget r c q lens f)
 
     module _ (here : p < length wp / 128) where
-      pub entered-11 : (e .refused ≡ true) × (e .why ≡ Unsound) → sound (read-areas (lent wp sp wl sl)) d ≡ false → Entered wp sp wl sl d p e
+      pub entered-11 : (e .ok ≡ false) × (e .why ≡ Unsound) → sound (read-areas (lent wp sp wl sl)) d ≡ false → Entered wp sp wl sl d p e
       entered-11 h f = stopped Unsound h (λ c budget r q. by-11 wp sp wl sl d p budget r c q lens here f)
 
-      pub entered-0 : e .refused ≡ false → e .pages ≡ length wp / 128 → e .slots ≡ length wl / 144 → Stands (e .pages) (e .slots) wp wl sl d (e .standing) → e .standing .ok ≡ true
+      pub entered-0 : e .ok ≡ true → e .pages ≡ length wp / 128 → e .slots ≡ length wl / 144 → Stands (e .pages) (e .slots) wp wl sl d (e .standing) → e .standing .ok ≡ true
           → Entered wp sp wl sl d p e
       unfolding eight-rows
       entered-0 r n-is m-is s o =
@@ -76,7 +76,7 @@ module _ (wp sp wl sl : List ℕ) (d : Desk) (p : ℕ) (e : Entry) where
           let low = known-low k few in
           let read = reads-few (e .slots) wl _ (k .reads) in
           record {
-            refuses = λ t. clash (sym t ∙ r);
+            refuses = λ t. clash (sym r ∙ t);
             sizes =
                 λ t. (
                   (

@@ -21,16 +21,16 @@ use def_model::Refusal;
 use sound_register::Standing;
 use sound_register::standing_of;
 ghost use mathlib.Core.Path.{_≡_};
-ghost use mathlib.Core.Bool.{true};
+ghost use mathlib.Core.Bool.{false};
 ghost use Prim.Native.Nat.{ℕ};
 ghost use Rattle.def_model.specs.OnBytes as calls;
 ghost use Rattle.area_lengths.specs.Lent.{at-entry, at-exit};
 ghost use Rattle.call_reply.specs.Replies.{Replies, RepliesWhole};
 ghost use Rattle.call_register.specs.Entered.{Entered};
 
-// What a call finds first: that it is refused, and why; or how many pages and slots there are, and where the register stands.
+// What a call finds first: how many pages and slots there are, and where the register stands; or, where it is not ok, why.
 struct Entry {
-    refused: bool,
+    ok: bool,
     why: Refusal,
     pages: usize,
     slots: usize,
@@ -38,7 +38,7 @@ struct Entry {
 }
 
 fn barred(why: Refusal) -> Entry
-    ensures { λ e. ⌜ (e .refused ≡ true) × (e .why ≡ why) ⌝ }
+    ensures { λ e. ⌜ (e .ok ≡ false) × (e .why ≡ why) ⌝ }
 {
     let standing = Standing {
         ok: false,
@@ -47,7 +47,7 @@ fn barred(why: Refusal) -> Entry
         free: 0,
     };
     Entry {
-        refused: true,
+        ok: false,
         why,
         pages: 0,
         slots: 0,
@@ -72,7 +72,7 @@ fn enter(wp: &[u8], sp: &[u8], wl: &[u8], sl: &[u8], d: Desk, p: u32) -> Entry
         return barred(Refusal::Unsound);
     }
     Entry {
-        refused: false,
+        ok: true,
         why: Refusal::Unsound,
         pages,
         slots,
@@ -85,7 +85,7 @@ pub fn begin(wp: &[u8], sp: &[u8], wl: &mut [u8], sl: &[u8], d: Desk) -> Reply
     ensures { λ r. ⌜ ((budget : ℕ) → Replies calls.begin (at-entry wp sp wl sl) d budget r (at-exit wp sp wl sl)) ⌝ }
 {
     let e = enter(wp, sp, wl, sl, d, 0);
-    if e.refused {
+    if !e.ok {
         let why = e.why;
         return refused(why, d);
     }
@@ -98,7 +98,7 @@ pub fn fetch(wp: &[u8], sp: &[u8], wl: &[u8], sl: &[u8], d: Desk, b: u32, k: u32
     ensures { λ r. ⌜ ((budget : ℕ) → Replies (calls.fetch b k) (at-entry wp sp wl sl) d budget r (at-exit wp sp wl sl)) ⌝ }
 {
     let e = enter(wp, sp, wl, sl, d, 0);
-    if e.refused {
+    if !e.ok {
         let why = e.why;
         return refused(why, d);
     }
@@ -110,7 +110,7 @@ pub fn next(wp: &[u8], sp: &[u8], wl: &[u8], sl: &[u8], d: Desk, b: u32, k: u32)
     ensures { λ r. ⌜ ((budget : ℕ) → Replies (calls.next b k) (at-entry wp sp wl sl) d budget r (at-exit wp sp wl sl)) ⌝ }
 {
     let e = enter(wp, sp, wl, sl, d, 0);
-    if e.refused {
+    if !e.ok {
         let why = e.why;
         return refused(why, d);
     }
@@ -131,7 +131,7 @@ pub fn insert(
     ensures { λ r. ⌜ ((budget : ℕ) → Replies (calls.insert b k v) (at-entry wp sp wl sl) d budget r (at-exit wp sp wl sl)) ⌝ }
 {
     let e = enter(wp, sp, wl, sl, d, 0);
-    if e.refused {
+    if !e.ok {
         let why = e.why;
         return refused(why, d);
     }
@@ -144,7 +144,7 @@ pub fn delete(wp: &mut [u8], sp: &[u8], wl: &mut [u8], sl: &[u8], d: Desk, b: u3
     ensures { λ r. ⌜ ((budget : ℕ) → Replies (calls.delete b k) (at-entry wp sp wl sl) d budget r (at-exit wp sp wl sl)) ⌝ }
 {
     let e = enter(wp, sp, wl, sl, d, 0);
-    if e.refused {
+    if !e.ok {
         let why = e.why;
         return refused(why, d);
     }
@@ -165,7 +165,7 @@ pub fn commit_within(
     ensures { λ r. ⌜ Replies (calls.commit b) (at-entry wp sp wl sl) d budget r (at-exit wp sp wl sl) ⌝ }
 {
     let e = enter(wp, sp, wl, sl, d, 0);
-    if e.refused {
+    if !e.ok {
         let why = e.why;
         return refused(why, d);
     }
@@ -178,7 +178,7 @@ pub fn abort(wp: &mut [u8], sp: &[u8], wl: &mut [u8], sl: &[u8], d: Desk, b: u32
     ensures { λ r. ⌜ ((budget : ℕ) → Replies (calls.abort b) (at-entry wp sp wl sl) d budget r (at-exit wp sp wl sl)) ⌝ }
 {
     let e = enter(wp, sp, wl, sl, d, 0);
-    if e.refused {
+    if !e.ok {
         let why = e.why;
         return refused(why, d);
     }
@@ -199,7 +199,7 @@ pub fn write_out_within(
     ensures { λ r. ⌜ Replies (calls.write-out p) (at-entry wp sp wl sl) d budget r (at-exit wp sp wl sl) ⌝ }
 {
     let e = enter(wp, sp, wl, sl, d, p);
-    if e.refused {
+    if !e.ok {
         let why = e.why;
         return refused(why, d);
     }

@@ -54,10 +54,10 @@ module _ {n m : ℕ} {sp sl after : List ℕ} {rs : List Row} {logged : ℕ} {ms
   refused-by : (why : Refusal) → r .ok ≡ false → r .why ≡ why → Refuses sp sl why → Readies n m sp sl after r
   refused-by why off e h = record { refuses = λ _ w. h w ∙ ap some (sym e); known = λ z. clash (sym z ∙ off); ready = λ z. clash (sym z ∙ off) }
 
-  pub redo-broken : x .fits ≡ false → r .ok ≡ false → r .why ≡ Redo → Readies n m sp sl after r
+  pub redo-broken : x .ok ≡ false → r .ok ≡ false → r .why ≡ Redo → Readies n m sp sl after r
   redo-broken e off y = refused-by Redo off y (λ w. redo-first (over w sp sl) (k .layouts) (k .log) (sym (answers .fits) ∙ e))
 
-  module _ (fit : x .fits ≡ true) where
+  module _ (fit : x .ok ≡ true) where
     shown : pages-of n after ≡ redone-in sp sl
     shown = pages-shown (answers .pages fit)
 

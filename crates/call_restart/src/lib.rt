@@ -97,7 +97,7 @@ fn redone(wp: &mut [u8], sl: &[u8], n: usize, m: usize, v: Verdict) -> Verdict
 {
     let rows = v.rows;
     let x = redo_log(wp, sl, n, m, v.logged);
-    if !x.fits {
+    if !x.ok {
         return image_bad(Refusal::Redo);
     }
     if !tree_ok(wp, n) {

@@ -55,8 +55,8 @@ pub record Free (d : Desk) (l : Lent) (b k : ℕ) (wrong : Bool) (says : Refusal
   pub none-broken : first-broken (update-checks b k wrong says (read-areas l) d) ≡ none
 
 pub record Bars (d : Desk) (l : Lent) (b k : ℕ) (wrong : Bool) (says : Refusal) (u : Bar) : Type 0 where
-  pub refuses : u .row ≡ 8 → first-broken (update-checks b k wrong says (read-areas l) d) ≡ some (u .why)
-  pub frees : u .row < 8 → Free d l b k wrong says (u .row)
+  pub refuses : u .ok ≡ false → first-broken (update-checks b k wrong says (read-areas l) d) ≡ some (u .why)
+  pub frees : u .ok ≡ true → Free d l b k wrong says (u .row)
 
 module _ {n m : ℕ} {wp sp wl sl : List ℕ} {d : Desk} {st : Standing} (g : Given n m wp sp wl sl d st) (b k : ℕ) where
   -- ---- the checks in their order
@@ -66,10 +66,10 @@ module _ {n m : ℕ} {wp sp wl sl : List ℕ} {d : Desk} {st : Standing} (g : Gi
     Says = Bars d (lent wp sp wl sl) b k wrong says u
 
     abbrev Stops : Refusal → Type 0
-    Stops why = (u .row ≡ 8) × (u .why ≡ why) → Says
+    Stops why = (u .row < 8) × (u .ok ≡ false) × (u .why ≡ why) → Says
 
     stop : (why : Refusal) → first-broken (update-checks b k wrong says (areas g) d) ≡ some why → Stops why
-    stop why e h = record { refuses = λ t. e ∙ ap some (sym (h .1)); frees = λ t. absurd (omega (arith, h .0)) }
+    stop why e h = record { refuses = λ t. e ∙ ap some (sym (h .2)); frees = λ t. clash (sym t ∙ h .1) }
 
     pub stop-12 : unmarked (find-batch b (work-open (areas g))) ≡ false → Stops NoBatch
     unfolding update-checks first-broken
@@ -98,11 +98,11 @@ module _ {n m : ℕ} {wp sp wl sl : List ℕ} {d : Desk} {st : Standing} (g : Gi
             unfolding update-checks first-broken
             stop-18 p = stop PagesShort (rw (g .is-sound, live, q, w, slots-are s, update-pages g ∙ p))
 
-            pub no-stop : update-pages-by (st .free) (st .pending) ≡ true → u .row ≡ open-place b (d .rows) → u .row < 8 → Says
+            pub no-stop : update-pages-by (st .free) (st .pending) ≡ true → u .ok ≡ true → u .row ≡ open-place b (d .rows) → u .row < 8 → Says
             unfolding update-checks first-broken
-            no-stop p e h =
+            no-stop p ok e h =
                 record {
-                  refuses = λ t. absurd (omega arith);
+                  refuses = λ t. clash (sym ok ∙ t);
                   frees = λ t. record { place = e; low = h; right = w; slots = slots-are s; pages = update-pages g ∙ p; none-broken = rw (g .is-sound, live, q, w, slots-are s, update-pages g ∙ p) };
                 }
 
@@ -133,10 +133,10 @@ module _ {n m : ℕ} {wp sp wl sl : List ℕ} {d : Desk} {st : Standing} (g : Gi
   can = lendable (lent wp sp wl sl) (g .lengths)
 
   module _ (wrong : Bool) (u : Bar) where
-    pub insert-barred : (v : ℕ) → wrong ≡ found value → Bars d (lent wp sp wl sl) b k wrong Present u → u .row ≡ 8 → Answers g (insert b k v) (Refused (u .why))
+    pub insert-barred : (v : ℕ) → wrong ≡ found value → Bars d (lent wp sp wl sl) b k wrong Present u → u .ok ≡ false → Answers g (insert b k v) (Refused (u .why))
     insert-barred v w h t = refuse g (insert b k v) (u .why) (as-insert wrong (some (u .why)) w (h .refuses t))
 
-    pub delete-barred : wrong ≡ not (found value) → Bars d (lent wp sp wl sl) b k wrong Absent u → u .row ≡ 8 → Answers g (delete b k) (Refused (u .why))
+    pub delete-barred : wrong ≡ not (found value) → Bars d (lent wp sp wl sl) b k wrong Absent u → u .ok ≡ false → Answers g (delete b k) (Refused (u .why))
     delete-barred w h t = refuse g (delete b k) (u .why) (as-delete wrong (some (u .why)) w (h .refuses t))
 
   -- ---- where no check refuses: one record more, and the row and the count anew

@@ -23,6 +23,7 @@ use tree_remove::remove_record;
 use tree_write::Run;
 use tree_write::note;
 ghost use mathlib.Core.Path.{_≡_};
+ghost use mathlib.Core.Bool.{false};
 ghost use mathlib.Core.List.{List};
 ghost use Prim.Native.Nat.{ℕ, _+_, _≤_, _<_};
 ghost use lib.ListN.{set};
@@ -174,16 +175,21 @@ fn value_in(f: Value) -> u32
     }
 }
 
-// What an update's checks come to: its batch's row; or 8, and why it is refused.
+// What an update's checks come to: its batch's row; or, where they are not ok, why.
 struct Bar {
+    ok: bool,
     why: Refusal,
     row: usize,
 }
 
 fn barred(why: Refusal) -> Bar
-    ensures { λ u. ⌜ (u .row ≡ 8) × (u .why ≡ why) ⌝ }
+    ensures { λ u. ⌜ (u .row < 8) × (u .ok ≡ false) × (u .why ≡ why) ⌝ }
 {
-    Bar { why, row: 8 }
+    Bar {
+        ok: false,
+        why,
+        row: 0,
+    }
 }
 
 // The checks of an insert and of a delete, which differ in the key's: whether it is `wrong`, and what that `says`.
@@ -199,7 +205,7 @@ fn update_bar(
 ) -> Bar
     requires { ⌜ HasSlots m (now wl) × (d .logged ≤ m) × (st .pending ≤ most-slots) ⌝ }
     ensures { λ u.
-        ⌜ (u .row ≤ 8)
+        ⌜ (u .row < 8)
         × ((n : ℕ) (wp sp sl : List ℕ) → Given n m wp sp (now (wl .entry)) sl d st → Bars d (lent wp sp (now (wl .entry)) sl) b k wrong says u) ⌝ }
 {
     let marked = st.marked;
@@ -221,7 +227,11 @@ fn update_bar(
     if !update_has_pages(st.free, st.pending as usize) {
         return barred(Refusal::PagesShort);
     }
-    Bar { why: says, row }
+    Bar {
+        ok: true,
+        why: says,
+        row,
+    }
 }
 
 // A slide is filed.
@@ -243,7 +253,7 @@ pub fn insert_in(
 {
     let f = fetched(wp, n, k);
     let u = update_bar(wl, m, d, st, b, k, is_there(f), Refusal::Present);
-    if u.row == 8 {
+    if !u.ok {
         let why = u.why;
         return refused(why, d);
     }
@@ -278,7 +288,7 @@ pub fn delete_in(
 {
     let f = fetched(wp, n, k);
     let u = update_bar(wl, m, d, st, b, k, !is_there(f), Refusal::Absent);
-    if u.row == 8 {
+    if !u.ok {
         let why = u.why;
         return refused(why, d);
     }

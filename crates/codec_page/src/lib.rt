@@ -11,6 +11,7 @@ use def_layout::MOST_ENTRIES;
 use def_layout::MOST_PAGES;
 use def_layout::PAGE_SIZE;
 use def_layout::ROOM;
+use def_layout::page;
 ghost use mathlib.Core.Path.{_≡_};
 ghost use mathlib.Core.Bool.{true};
 ghost use Prim.Native.Nat.{ℕ, _+_, _/_, _%_, _≤_, _<_};
@@ -55,40 +56,43 @@ pub fn read_page(b: &[u8]) -> Page
     requires { ⌜ length (now b) ≡ page-size ⌝ }
     ensures { λ r. ⌜ (typed r ≡ page-fields (now (b .entry))) × (r ≡ shown-page (now (b .entry))) ⌝ }
 {
-    let w = get32(b, 0);
-    let es = read_entries(b, 16);
+    let w = get32(b, page::FRONT_AT);
+    let es = read_entries(b, page::ENTRIES_AT);
     Page {
-        kind: w / 1073741824,
-        level: w / 67108864 % 16,
-        count: w / 4194304 % 16,
-        right: w / 4096 % 1024,
-        high: get32(b, 4),
-        lsn: get32(b, 8),
-        own: get32(b, 12) / 4194304,
+        kind: w / page::KIND_UNIT,
+        level: w / page::LEVEL_UNIT % 16,
+        count: w / page::COUNT_UNIT % 16,
+        right: w / page::RIGHT_UNIT % 1024,
+        high: get32(b, page::HIGH_AT),
+        lsn: get32(b, page::LSN_AT),
+        own: get32(b, page::OWN_AT) / page::OWN_UNIT,
         entries: es,
     }
 }
+
+// The map's kind in its first word.
+const MAP: u32 = 3 * page::KIND_UNIT;
 
 fn pack_front(p: Page) -> u32
     ensures { λ r. ⌜ r ≡ front-word (typed p) ⌝ }
 {
     if p.kind < 3 {
-        return p.kind * 1073741824
-            + p.level % 16 * 67108864
-            + p.count % 16 * 4194304
-            + p.right % 1024 * 4096;
+        return p.kind * page::KIND_UNIT
+            + p.level % 16 * page::LEVEL_UNIT
+            + p.count % 16 * page::COUNT_UNIT
+            + p.right % 1024 * page::RIGHT_UNIT;
     }
-    3221225472 + p.level % 16 * 67108864 + p.right % 1024 * 4096
+    MAP + p.level % 16 * page::LEVEL_UNIT + p.right % 1024 * page::RIGHT_UNIT
 }
 
 fn write_front(b: &mut [u8], p: Page)
     requires { ⌜ length (now b) ≡ page-size ⌝ }
     ensures { λ _. ⌜ now (b .exit) ≡ patch (now (b .entry)) 0 (page-front (typed p)) ⌝ }
 {
-    set32(b, 0, pack_front(p));
-    set32(b, 4, p.high);
-    set32(b, 8, p.lsn);
-    set32(b, 12, p.own % 1024 * 4194304);
+    set32(b, page::FRONT_AT, pack_front(p));
+    set32(b, page::HIGH_AT, p.high);
+    set32(b, page::LSN_AT, p.lsn);
+    set32(b, page::OWN_AT, p.own % 1024 * page::OWN_UNIT);
 }
 
 // How many entries are written: those in use, or all of the map's words.
@@ -107,7 +111,7 @@ pub fn write_page(b: &mut [u8], p: Page)
 {
     write_front(b, p);
     let es = p.entries;
-    write_entries(b, 16, es, to_write(p));
+    write_entries(b, page::ENTRIES_AT, es, to_write(p));
 }
 
 // The page that stands in an area from byte `a` on.
@@ -317,7 +321,7 @@ fn is_never_used(b: &[u8], p: usize) -> bool
     if p == 0 {
         return false;
     }
-    if get32(b, 0) != 0 {
+    if get32(b, page::FRONT_AT) != 0 {
         return false;
     }
     is_zero(b)
@@ -333,10 +337,10 @@ pub fn page_ok(b: &[u8], n: usize, p: usize) -> bool
     if is_never_used(b, p) {
         return true;
     }
-    if get32(b, 0) % 4096 != 0 {
+    if get32(b, page::FRONT_AT) % page::RIGHT_UNIT != 0 {
         return false;
     }
-    if get32(b, 12) % 4194304 != 0 {
+    if get32(b, page::OWN_AT) % page::OWN_UNIT != 0 {
         return false;
     }
     let x = read_page(b);

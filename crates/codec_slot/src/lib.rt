@@ -9,6 +9,7 @@ use codec_entries::write_entries;
 use def_layout::Entry;
 use def_layout::ROOM;
 use def_layout::SLOT_SIZE;
+use def_layout::slot;
 ghost use mathlib.Core.Path.{_≡_};
 ghost use Prim.Native.Nat.{_+_, _*_, _≤_, _<_};
 ghost use lib.ListN.{length};
@@ -50,21 +51,21 @@ fn read_header(b: &[u8]) -> Header
     requires { ⌜ length (now b) ≡ slot-size ⌝ }
     ensures { λ r. ⌜ r ≡ shown-header (now (b .entry)) ⌝ }
 {
-    let w = get32(b, 0);
-    let pages = get32(b, 16);
+    let w = get32(b, slot::FRONT_AT);
+    let pages = get32(b, slot::PAGES_AT);
     Header::Full {
-        kind: w / 268435456,
-        count: w / 16777216 % 16,
-        level: w / 1048576 % 16,
-        own: get32(b, 4),
-        batch: get32(b, 8),
-        previous: get32(b, 12),
-        a: pages / 4194304,
-        b: pages / 4096 % 1024,
-        c: pages / 4 % 1024,
-        key: get32(b, 20),
-        second: get32(b, 24),
-        right: get32(b, 28) / 4194304,
+        kind: w / slot::KIND_UNIT,
+        count: w / slot::COUNT_UNIT % 16,
+        level: w / slot::LEVEL_UNIT % 16,
+        own: get32(b, slot::OWN_AT),
+        batch: get32(b, slot::BATCH_AT),
+        previous: get32(b, slot::PREVIOUS_AT),
+        a: pages / slot::A_UNIT,
+        b: pages / slot::B_UNIT % 1024,
+        c: pages / slot::C_UNIT % 1024,
+        key: get32(b, slot::KEY_AT),
+        second: get32(b, slot::SECOND_AT),
+        right: get32(b, slot::RIGHT_AT) / slot::RIGHT_UNIT,
     }
 }
 
@@ -73,20 +74,20 @@ fn is_record(b: &[u8], es: [Entry; ROOM]) -> bool
     requires { ⌜ length (now b) ≡ slot-size ⌝ }
     ensures { λ r. ⌜ r ≡ clean (now (b .entry)) es ⌝ }
 {
-    let w = get32(b, 0);
-    if w / 268435456 == 0 {
+    let w = get32(b, slot::FRONT_AT);
+    if w / slot::KIND_UNIT == 0 {
         return false;
     }
-    if w % 1048576 != 0 {
+    if w % slot::LEVEL_UNIT != 0 {
         return false;
     }
-    if get32(b, 16) % 4 != 0 {
+    if get32(b, slot::PAGES_AT) % slot::C_UNIT != 0 {
         return false;
     }
-    if get32(b, 28) % 4194304 != 0 {
+    if get32(b, slot::RIGHT_AT) % slot::RIGHT_UNIT != 0 {
         return false;
     }
-    let n = w / 16777216 % 16;
+    let n = w / slot::COUNT_UNIT % 16;
     blank_from(es, n as usize)
 }
 
@@ -94,7 +95,7 @@ pub fn read_slot(b: &[u8]) -> Slot
     requires { ⌜ length (now b) ≡ slot-size ⌝ }
     ensures { λ r. ⌜ typed (now (b .entry)) r ≡ read-slot (now (b .entry)) ⌝ }
 {
-    let entries = read_entries(b, 32);
+    let entries = read_entries(b, slot::ENTRIES_AT);
     if is_zero(b) {
         return Slot {
             header: Header::Empty,
@@ -155,17 +156,17 @@ pub fn write_slot(area: &mut [u8], s: Slot)
             second,
             right,
         } => {
-            let first = kind_number(kind) * 268435456
-                + count % 16 * 16777216
-                + level % 16 * 1048576;
-            let pages = a % 1024 * 4194304 + b % 1024 * 4096 + c % 1024 * 4;
-            let last = right % 1024 * 4194304;
+            let first = kind_number(kind) * slot::KIND_UNIT
+                + count % 16 * slot::COUNT_UNIT
+                + level % 16 * slot::LEVEL_UNIT;
+            let pages = a % 1024 * slot::A_UNIT + b % 1024 * slot::B_UNIT + c % 1024 * slot::C_UNIT;
+            let last = right % 1024 * slot::RIGHT_UNIT;
             write_words(
                 area,
                 [first, own, batch, previous, pages, key, second, last],
             );
             let es = s.entries;
-            write_entries(area, 32, es, count as usize);
+            write_entries(area, slot::ENTRIES_AT, es, count as usize);
         }
         Header::Empty => {
             zero(area);

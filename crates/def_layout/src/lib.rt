@@ -1,4 +1,7 @@
-// The register's values: entries of pages and log records, and the desk.
+// The register's values: entries of pages and log records, and the desk. Where the fields of a page and of a slot stand is in `page` and `slot`.
+pub mod page;
+pub mod slot;
+
 ghost use mathlib.Core.Path.{_≡_};
 ghost use Prim.Native.Nat.{_<_};
 ghost use lib.ListN.{set};
@@ -17,6 +20,10 @@ pub const LEAST_SLOTS: usize = 64;
 pub const MOST_SLOTS: usize = 16384;
 
 pub const ROOM: usize = 14;
+
+pub const ENTRY_SIZE: usize = 8;
+
+pub const ENTRIES_SIZE: usize = 112;
 
 pub const MOST_ENTRIES: u32 = 14;
 

@@ -25,20 +25,20 @@ use Rattle.donzhikar.specs.declared.Request.{Request}
 
 -- What they say of every call.
 pub record Asks (desk values : List ℕ) (q : Request) : Type 0 where
-  pub wrong : q .refused ≡ true → sizes-ok desk values ≡ false
-  pub sizes : q .refused ≡ false → (length desk ≡ 136) × (length values ≡ 8)
-  pub asks : q .refused ≡ false → (c : Call) (l : Lent) → answered (call c l (q .desk)) l ≡ c-call c l desk values
+  pub wrong : q .ok ≡ false → sizes-ok desk values ≡ false
+  pub sizes : q .ok ≡ true → (length desk ≡ 136) × (length values ≡ 8)
+  pub asks : q .ok ≡ true → (c : Call) (l : Lent) → answered (call c l (q .desk)) l ≡ c-call c l desk values
 
 module _ (desk values : List ℕ) (q : Request) where
-  pub wrong-length : q .refused ≡ true → eqb (length desk) 136 && eqb (length values) 8 ≡ false → Asks desk values q
+  pub wrong-length : q .ok ≡ false → eqb (length desk) 136 && eqb (length values) 8 ≡ false → Asks desk values q
   unfolding sizes-ok
-  wrong-length r e = record { wrong = λ t. e; sizes = λ t. clash (sym r ∙ t); asks = λ t. clash (sym r ∙ t) }
+  wrong-length r e = record { wrong = λ t. e; sizes = λ t. clash (sym t ∙ r); asks = λ t. clash (sym t ∙ r) }
 
-  pub right-lengths : q .refused ≡ false → length desk ≡ 136 → length values ≡ 8 → q .desk ≡ read-desk desk → Asks desk values q
+  pub right-lengths : q .ok ≡ true → length desk ≡ 136 → length values ≡ 8 → q .desk ≡ read-desk desk → Asks desk values q
   unfolding sizes-ok c-call returned-by
   right-lengths r e f d =
       record {
-        wrong = λ t. clash (sym t ∙ r);
+        wrong = λ t. clash (sym r ∙ t);
         sizes = λ t. (e, f);
         asks = λ t c l. rw (c-call, sizes-ok, eq-true (length desk) 136 e, eq-true (length values) 8 f, d);
       }

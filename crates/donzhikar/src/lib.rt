@@ -21,9 +21,9 @@ ghost use Rattle.area_lengths.specs.Lent.{at-entry, at-exit};
 ghost use Rattle.def_c.specs.FromC.{returned, refused-values, c-call};
 ghost use Rattle.donzhikar.specs.Returned.{Asks, DeskLeft, Refuses, Gives};
 
-// What stands before every call: whether it is refused by a length, and if not the desk.
+// What stands before every call: whether the lengths are right, and the desk if they are.
 struct Request {
-    refused: bool,
+    ok: bool,
     desk: Desk,
 }
 
@@ -32,7 +32,7 @@ fn asked(desk: &[u8], values: &[u8]) -> Request
     ensures { λ q. ⌜ Asks (now (desk .entry)) (now (values .entry)) q ⌝ }
 {
     let none = Request {
-        refused: true,
+        ok: false,
         desk: idle_desk(0),
     };
     if desk.len() != DESK_SIZE {
@@ -42,7 +42,7 @@ fn asked(desk: &[u8], values: &[u8]) -> Request
         return none;
     }
     Request {
-        refused: false,
+        ok: true,
         desk: get_desk(desk),
     }
 }
@@ -105,7 +105,7 @@ pub extern "C" fn donzhikar_format(
     ensures { λ r. ⌜ returned r (now (desk .exit)) (now (values .exit)) (at-exit wp sp wl sl) ≡ c-call calls.format (at-entry wp sp wl sl) (now (desk .entry)) (now (values .entry)) ⌝ }
 {
     let q = asked(desk, values);
-    if q.refused {
+    if !q.ok {
         return refuse(desk, values, true);
     }
     let d = q.desk;
@@ -126,7 +126,7 @@ pub extern "C" fn donzhikar_begin(
     ensures { λ r. ⌜ returned r (now (desk .exit)) (now (values .exit)) (at-exit wp sp wl sl) ≡ c-call calls.begin (at-entry wp sp wl sl) (now (desk .entry)) (now (values .entry)) ⌝ }
 {
     let q = asked(desk, values);
-    if q.refused {
+    if !q.ok {
         return refuse(desk, values, false);
     }
     let d = q.desk;
@@ -149,7 +149,7 @@ pub extern "C" fn donzhikar_fetch(
     ensures { λ r. ⌜ returned r (now (desk .exit)) (now (values .exit)) (at-exit wp sp wl sl) ≡ c-call (calls.fetch batch key) (at-entry wp sp wl sl) (now (desk .entry)) (now (values .entry)) ⌝ }
 {
     let q = asked(desk, values);
-    if q.refused {
+    if !q.ok {
         return refuse(desk, values, false);
     }
     let d = q.desk;
@@ -172,7 +172,7 @@ pub extern "C" fn donzhikar_next(
     ensures { λ r. ⌜ returned r (now (desk .exit)) (now (values .exit)) (at-exit wp sp wl sl) ≡ c-call (calls.next batch key) (at-entry wp sp wl sl) (now (desk .entry)) (now (values .entry)) ⌝ }
 {
     let q = asked(desk, values);
-    if q.refused {
+    if !q.ok {
         return refuse(desk, values, false);
     }
     let d = q.desk;
@@ -196,7 +196,7 @@ pub extern "C" fn donzhikar_insert(
     ensures { λ r. ⌜ returned r (now (desk .exit)) (now (values .exit)) (at-exit wp sp wl sl) ≡ c-call (calls.insert batch key value) (at-entry wp sp wl sl) (now (desk .entry)) (now (values .entry)) ⌝ }
 {
     let q = asked(desk, values);
-    if q.refused {
+    if !q.ok {
         return refuse(desk, values, false);
     }
     let d = q.desk;
@@ -219,7 +219,7 @@ pub extern "C" fn donzhikar_delete(
     ensures { λ r. ⌜ returned r (now (desk .exit)) (now (values .exit)) (at-exit wp sp wl sl) ≡ c-call (calls.delete batch key) (at-entry wp sp wl sl) (now (desk .entry)) (now (values .entry)) ⌝ }
 {
     let q = asked(desk, values);
-    if q.refused {
+    if !q.ok {
         return refuse(desk, values, false);
     }
     let d = q.desk;
@@ -241,7 +241,7 @@ pub extern "C" fn donzhikar_commit(
     ensures { λ r. ⌜ returned r (now (desk .exit)) (now (values .exit)) (at-exit wp sp wl sl) ≡ c-call (calls.commit batch) (at-entry wp sp wl sl) (now (desk .entry)) (now (values .entry)) ⌝ }
 {
     let q = asked(desk, values);
-    if q.refused {
+    if !q.ok {
         return refuse(desk, values, false);
     }
     let d = q.desk;
@@ -263,7 +263,7 @@ pub extern "C" fn donzhikar_abort(
     ensures { λ r. ⌜ returned r (now (desk .exit)) (now (values .exit)) (at-exit wp sp wl sl) ≡ c-call (calls.abort batch) (at-entry wp sp wl sl) (now (desk .entry)) (now (values .entry)) ⌝ }
 {
     let q = asked(desk, values);
-    if q.refused {
+    if !q.ok {
         return refuse(desk, values, false);
     }
     let d = q.desk;
@@ -285,7 +285,7 @@ pub extern "C" fn donzhikar_write_out(
     ensures { λ r. ⌜ returned r (now (desk .exit)) (now (values .exit)) (at-exit wp sp wl sl) ≡ c-call (calls.write-out page) (at-entry wp sp wl sl) (now (desk .entry)) (now (values .entry)) ⌝ }
 {
     let q = asked(desk, values);
-    if q.refused {
+    if !q.ok {
         return refuse(desk, values, false);
     }
     let d = q.desk;
@@ -306,7 +306,7 @@ pub extern "C" fn donzhikar_restart(
     ensures { λ r. ⌜ returned r (now (desk .exit)) (now (values .exit)) (at-exit wp sp wl sl) ≡ c-call calls.restart (at-entry wp sp wl sl) (now (desk .entry)) (now (values .entry)) ⌝ }
 {
     let q = asked(desk, values);
-    if q.refused {
+    if !q.ok {
         return refuse(desk, values, true);
     }
     let d = q.desk;

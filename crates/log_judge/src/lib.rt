@@ -8,6 +8,7 @@ use codec_slot::kind_number;
 use codec_slot::read_at;
 use def_layout::Row;
 use def_layout::SLOT_SIZE;
+use def_layout::slot;
 use log_chain::Judged;
 use log_chain::Told;
 use log_chain::going_on;
@@ -32,6 +33,11 @@ ghost use Rattle.log_judge.specs.Updates.{told-by, Plain, Update, TellsU
 ghost use Rattle.log_judge.specs.Turns.{in-order, Turns};
 ghost use Rattle.log_judge.specs.Judging.{Judgement};
 ghost use Rattle.log_judge.specs.Accepted.{total};
+
+// The first word of a begin and of a commit.
+const BEGIN: u32 = slot::KIND_UNIT;
+
+const COMMIT: u32 = 6 * slot::KIND_UNIT;
 
 // What a log says: whether it keeps 01's rules, the rows of its open batches, which of these have their abort mark, and how many records it has.
 // Where it is not ok, the rest says nothing.
@@ -89,12 +95,12 @@ fn told_at(b: &[u8]) -> Told
     ensures { λ t. ⌜ t ≡ told-by (now (b .entry)) ⌝ }
 {
     Told {
-        kind: get32(b, 0) / 268435456,
-        own: get32(b, 4),
-        batch: get32(b, 8),
-        previous: get32(b, 12),
-        key: get32(b, 20),
-        second: get32(b, 24),
+        kind: get32(b, slot::FRONT_AT) / slot::KIND_UNIT,
+        own: get32(b, slot::OWN_AT),
+        batch: get32(b, slot::BATCH_AT),
+        previous: get32(b, slot::PREVIOUS_AT),
+        key: get32(b, slot::KEY_AT),
+        second: get32(b, slot::SECOND_AT),
     }
 }
 
@@ -103,33 +109,33 @@ fn is_batch(b: &[u8], number: u32) -> bool
     requires { ⌜ length (now b) ≡ slot-size ⌝ }
     ensures { λ r. ⌜ (r ≡ true → (n : ℕ) → 0 < n → Plain n number (now (b .entry))) ⌝ }
 {
-    let clear = is_zero(&b[32..SLOT_SIZE]);
-    if get32(b, 4) != number {
+    let clear = is_zero(&b[slot::ENTRIES_AT..SLOT_SIZE]);
+    if get32(b, slot::OWN_AT) != number {
         return false;
     }
-    if get32(b, 16) != 0 {
+    if get32(b, slot::PAGES_AT) != 0 {
         return false;
     }
-    if get32(b, 20) != 0 {
+    if get32(b, slot::KEY_AT) != 0 {
         return false;
     }
-    if get32(b, 24) != 0 {
+    if get32(b, slot::SECOND_AT) != 0 {
         return false;
     }
-    if get32(b, 28) != 0 {
+    if get32(b, slot::RIGHT_AT) != 0 {
         return false;
     }
-    let w = get32(b, 0);
-    if w == 1610612736 {
+    let w = get32(b, slot::FRONT_AT);
+    if w == COMMIT {
         return clear;
     }
-    if w != 268435456 {
+    if w != BEGIN {
         return false;
     }
-    if get32(b, 8) != number {
+    if get32(b, slot::BATCH_AT) != number {
         return false;
     }
-    if get32(b, 12) != 0 {
+    if get32(b, slot::PREVIOUS_AT) != 0 {
         return false;
     }
     clear
@@ -205,30 +211,30 @@ fn is_update(b: &[u8], own: u32, n: usize) -> bool
     requires { ⌜ length (now b) ≡ slot-size ⌝ }
     ensures { λ r. ⌜ (r ≡ true → Update n own (now (b .entry))) ⌝ }
 {
-    let w = get32(b, 0);
-    if w % 268435456 != 0 {
+    let w = get32(b, slot::FRONT_AT);
+    if w % slot::KIND_UNIT != 0 {
         return false;
     }
-    if w / 268435456 < 2 {
+    if w / slot::KIND_UNIT < 2 {
         return false;
     }
-    if 3 < w / 268435456 {
+    if 3 < w / slot::KIND_UNIT {
         return false;
     }
-    if get32(b, 4) != own {
+    if get32(b, slot::OWN_AT) != own {
         return false;
     }
-    let pages = get32(b, 16);
-    if pages % 4194304 != 0 {
+    let pages = get32(b, slot::PAGES_AT);
+    if pages % slot::A_UNIT != 0 {
         return false;
     }
-    if n <= (pages / 4194304) as usize {
+    if n <= (pages / slot::A_UNIT) as usize {
         return false;
     }
-    if get32(b, 28) != 0 {
+    if get32(b, slot::RIGHT_AT) != 0 {
         return false;
     }
-    is_zero(&b[32..SLOT_SIZE])
+    is_zero(&b[slot::ENTRIES_AT..SLOT_SIZE])
 }
 
 // What an update at slot i tells the batch chain; kind 0 where the slot holds none.

@@ -1,6 +1,7 @@
 // The pending updates of a log's open batches, found through the log itself: each names a record from which the one below it is found.
 use codec_bytes::get32;
 use def_layout::SLOT_SIZE;
+use def_layout::slot;
 ghost use Rattle.law_bytes.specs.AreaSizes.{HasSlots};
 ghost use Rattle.log_pending.specs.Reading.{TellsAfter};
 ghost use Rattle.log_pending.specs.Lines.{TellsLine};
@@ -26,10 +27,10 @@ fn pending_after(log: &[u8], m: usize, p: u32) -> u32
     if i >= m {
         return 0;
     }
-    let kind = get32(log, SLOT_SIZE * i) / 268435456;
+    let kind = get32(log, SLOT_SIZE * i) / slot::KIND_UNIT;
     match kind {
         2..=3 => p,
-        4..=5 => get32(log, SLOT_SIZE * i + 12),
+        4..=5 => get32(log, SLOT_SIZE * i + slot::PREVIOUS_AT),
         _ => 0,
     }
 }
@@ -53,10 +54,10 @@ pub fn line_at(log: &[u8], m: usize, number: u32) -> Line
     if i >= m {
         return none;
     }
-    let kind = get32(log, SLOT_SIZE * i) / 268435456;
-    let key = get32(log, SLOT_SIZE * i + 20);
-    let value = get32(log, SLOT_SIZE * i + 24);
-    let previous = get32(log, SLOT_SIZE * i + 12);
+    let kind = get32(log, SLOT_SIZE * i) / slot::KIND_UNIT;
+    let key = get32(log, SLOT_SIZE * i + slot::KEY_AT);
+    let value = get32(log, SLOT_SIZE * i + slot::SECOND_AT);
+    let previous = get32(log, SLOT_SIZE * i + slot::PREVIOUS_AT);
     let below = pending_after(log, m, previous);
     Line {
         number,

@@ -17,7 +17,7 @@ use Rattle.codec_entries.specs.Arrays.{used-take, used-set}
 use Rattle.codec_entries.specs.Turns.{used-rest-none}
 use Rattle.def_layout.specs.Numbers.{tab}
 use Rattle.def_model.specs.Change.{link-in, unlink-in}
-use Rattle.record_apply.specs.declared.EntryList.{EntryList}
+use Rattle.record_apply.specs.declared.lists.EntryList.{EntryList}
 
 -- The entries of a list of the program's.
 abbrev pub listed : EntryList → List Entry

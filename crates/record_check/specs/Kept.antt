@@ -2,9 +2,9 @@
 use mathlib.Core.Path.{_≡_, ap}
 use Prim.Native.Nat.{ℕ, _+_, _*_, _/_, _%_}
 use native.Mathlib.Omega.{arith}
-use mathlib.Core.Bool.{Bool, false, _&&_}
+use mathlib.Core.Bool.{Bool, true, false, _&&_}
 use mathlib.Core.List.{List}
-use lib.Dec.{eqb, ltb}
+use lib.Dec.{eqb, leb, ltb}
 use Rattle.def_base.specs.Tests.{pick}
 use Rattle.def_layout.specs.declared.Entry.{Entry}
 use Rattle.def_layout.specs.Records.{Rec, kind-of, begin}
@@ -19,6 +19,11 @@ unfoldable pub mask : Named → ℕ
 mask f =
     pick (f .level) 512 0 + pick (f .batch) 256 0 + pick (f .previous) 128 0 + pick (f .a) 64 0 + pick (f .b) 32 0 + pick (f .c) 16 0
     + pick (f .key) 8 0 + pick (f .second) 4 0 + pick (f .right) 2 0 + pick (f .entries) 1 0
+
+-- A key up to another, or above it.
+unfoldable pub on-side : Bool → ℕ → ℕ → Bool
+on-side true key k = leb k key
+on-side false key k = ltb key k
 
 -- A full slot keeps its row; any other slot keeps none.
 unfoldable pub row-kept : Header → List Entry → Bool

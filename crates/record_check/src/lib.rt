@@ -9,13 +9,13 @@ use def_layout::ROOM;
 ghost use mathlib.Core.Path.{_≡_};
 ghost use mathlib.Core.Bool.{true, _&&_};
 ghost use Prim.Native.Nat.{_/_, _%_, _≤_, _<_};
-ghost use lib.Dec.{eqb, leb, ltb};
+ghost use lib.Dec.{eqb, leb};
 ghost use Rattle.def_layout.specs.Sizes.{page-size, room};
 ghost use Rattle.def_base.specs.Tests.{every};
 ghost use Rattle.def_layout.specs.Records.{kind-of};
 ghost use Rattle.def_layout.specs.Rows.{carries, zero-unless, level-bits, one-side};
 ghost use Rattle.law_bytes.specs.EntryBytes.{used};
-ghost use Rattle.record_check.specs.Kept.{mask, three-but, says, row-kept, pages-kept};
+ghost use Rattle.record_check.specs.Kept.{mask, three-but, on-side, says, row-kept, pages-kept};
 
 // 01's table, a row a kind: a bit for each field that the kind names, in the order level, batch, previous; A, B, C; key, second,
 // right; entries.
@@ -73,27 +73,23 @@ fn count_ok(row: u32, count: u32) -> bool
     count <= MOST_ENTRIES
 }
 
-fn all_below(es: [Entry; ROOM], n: usize, key: u32) -> bool
-    requires { ⌜ n ≤ room ⌝ }
-    ensures { λ r. ⌜ r ≡ every (λ e. leb (e .key) key) (used n es) ⌝ }
+// A key on the low side of another, up to it, or above it.
+fn on_side(low: bool, key: u32, k: u32) -> bool
+    ensures { λ r. ⌜ r ≡ on-side low key k ⌝ }
 {
-    let mut i = 0;
-    while i < n {
-        if es[i].key > key {
-            return false;
-        }
-        i += 1;
+    if low {
+        return k <= key;
     }
-    true
+    key < k
 }
 
-fn all_above(es: [Entry; ROOM], n: usize, key: u32) -> bool
+fn all_on(low: bool, es: [Entry; ROOM], n: usize, key: u32) -> bool
     requires { ⌜ n ≤ room ⌝ }
-    ensures { λ r. ⌜ r ≡ every (λ e. ltb key (e .key)) (used n es) ⌝ }
+    ensures { λ r. ⌜ r ≡ every (λ e. on-side low key (e .key)) (used n es) ⌝ }
 {
     let mut i = 0;
     while i < n {
-        if es[i].key <= key {
+        if !on_side(low, key, es[i].key) {
             return false;
         }
         i += 1;
@@ -106,10 +102,10 @@ fn on_one_side(es: [Entry; ROOM], n: usize, key: u32) -> bool
     requires { ⌜ n ≤ room ⌝ }
     ensures { λ r. ⌜ r ≡ one-side key (used n es) ⌝ }
 {
-    if all_below(es, n, key) {
+    if all_on(true, es, n, key) {
         return true;
     }
-    all_above(es, n, key)
+    all_on(false, es, n, key)
 }
 
 // Entries of a level above the leaves' have nothing above the child's ten bits.

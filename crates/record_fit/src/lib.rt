@@ -20,7 +20,7 @@ use codec_page::size_of;
 use def_layout::MOST_PAGES;
 use pages::is_free;
 use record_apply::Record;
-use record_apply::role_of;
+use record_apply::roles::role_of;
 use slides::delete_fits;
 use slides::insert_fits;
 use slides::undo_insert_fits;

@@ -3,7 +3,7 @@ use codec_entries::children_fit;
 use codec_page::Page;
 use def_layout::Entry;
 use def_layout::ROOM;
-use record_apply::kind_at;
+use record_apply::pages::kind_at;
 ghost use mathlib.Core.Path.{_≡_};
 ghost use Prim.Native.Nat.{suc, _+_, _≤_};
 ghost use lib.Dec.{eqb, leb};

@@ -4,8 +4,11 @@ use codec_bytes::copy;
 use codec_bytes::copy_part;
 use codec_bytes::get32;
 use codec_bytes::set32;
+use def_layout::ENTRIES_SIZE;
+use def_layout::ENTRY_SIZE;
 use def_layout::PAGE_SIZE;
 use def_layout::ROOM;
+use def_layout::page;
 ghost use mathlib.Core.Path.{_≡_};
 ghost use mathlib.Core.List.{_++_};
 ghost use Prim.Native.Nat.{_+_, _-_, _*_, _≤_, _<_};
@@ -20,6 +23,13 @@ ghost use Rattle.def_model.specs.Fit.{nowhere};
 ghost use Rattle.record_leaf.specs.Keys.{shown};
 ghost use Rattle.record_leaf.specs.Leaves.{Filed, Struck, Made};
 
+// With 8 * i more: where the entry after entry i stands. With 8 * n more: the key and the value of the last of n entries.
+const NEXT_AT: usize = page::ENTRIES_AT + ENTRY_SIZE;
+
+const LAST_KEY_AT: usize = page::ENTRIES_AT - ENTRY_SIZE;
+
+const LAST_VALUE_AT: usize = page::VALUES_AT - ENTRY_SIZE;
+
 // The place of the first of n entries whose key is not below k, or n.
 fn place_of(b: &[u8], n: usize, k: u32) -> usize
     requires { ⌜ (length (now b) ≡ page-size) × (n ≤ room) ⌝ }
@@ -27,7 +37,7 @@ fn place_of(b: &[u8], n: usize, k: u32) -> usize
 {
     let mut i = 0;
     while i < n {
-        if get32(b, 16 + 8 * i) >= k {
+        if get32(b, page::ENTRIES_AT + ENTRY_SIZE * i) >= k {
             return i;
         }
         i += 1;
@@ -42,7 +52,7 @@ fn is_nowhere(b: &[u8], n: usize, k: u32) -> bool
 {
     let mut i = 0;
     while i < n {
-        if get32(b, 16 + 8 * i) == k {
+        if get32(b, page::ENTRIES_AT + ENTRY_SIZE * i) == k {
             return false;
         }
         i += 1;
@@ -55,11 +65,17 @@ fn put_in(b: &mut [u8], n: usize, i: usize, k: u32, v: u32)
     requires { ⌜ (length (now b) ≡ page-size) × (n < room) × (i ≤ n) ⌝ }
     ensures { λ _. ⌜ now (b .exit) ≡ patch (now (b .entry)) (16 + 8 * i) (put32 k ++ put32 v ++ part (now (b .entry)) (16 + 8 * i) (8 * (n - i))) ⌝ }
 {
-    let mut old = [0u8; 112];
-    copy(&mut old, &b[16..PAGE_SIZE]);
-    set32(b, 16 + 8 * i, k);
-    set32(b, 20 + 8 * i, v);
-    copy_part(b, 24 + 8 * i, &old, 8 * i, 8 * (n - i));
+    let mut old = [0u8; ENTRIES_SIZE];
+    copy(&mut old, &b[page::ENTRIES_AT..PAGE_SIZE]);
+    set32(b, page::ENTRIES_AT + ENTRY_SIZE * i, k);
+    set32(b, page::VALUES_AT + ENTRY_SIZE * i, v);
+    copy_part(
+        b,
+        NEXT_AT + ENTRY_SIZE * i,
+        &old,
+        ENTRY_SIZE * i,
+        ENTRY_SIZE * (n - i),
+    );
 }
 
 // Of n entries the one at place i goes, those above it move down, and the last place is zero.
@@ -67,11 +83,17 @@ fn take_out(b: &mut [u8], n: usize, i: usize)
     requires { ⌜ (length (now b) ≡ page-size) × (n ≤ room) × (i < n) ⌝ }
     ensures { λ _. ⌜ now (b .exit) ≡ patch (now (b .entry)) (16 + 8 * i) (part (now (b .entry)) (24 + 8 * i) (8 * (n - 1 - i)) ++ put32 0 ++ put32 0) ⌝ }
 {
-    let mut old = [0u8; 112];
-    copy(&mut old, &b[16..PAGE_SIZE]);
-    copy_part(b, 16 + 8 * i, &old, 8 + 8 * i, 8 * (n - 1 - i));
-    set32(b, 8 + 8 * n, 0);
-    set32(b, 12 + 8 * n, 0);
+    let mut old = [0u8; ENTRIES_SIZE];
+    copy(&mut old, &b[page::ENTRIES_AT..PAGE_SIZE]);
+    copy_part(
+        b,
+        page::ENTRIES_AT + ENTRY_SIZE * i,
+        &old,
+        ENTRY_SIZE + ENTRY_SIZE * i,
+        ENTRY_SIZE * (n - 1 - i),
+    );
+    set32(b, LAST_KEY_AT + ENTRY_SIZE * n, 0);
+    set32(b, LAST_VALUE_AT + ENTRY_SIZE * n, 0);
 }
 
 // The page's first word and its log number.
@@ -79,8 +101,8 @@ fn stamp(b: &mut [u8], front: u32, own: u32)
     requires { ⌜ length (now b) ≡ page-size ⌝ }
     ensures { λ _. ⌜ now (b .exit) ≡ patch (patch (now (b .entry)) 0 (put32 front)) 8 (put32 own) ⌝ }
 {
-    set32(b, 0, front);
-    set32(b, 8, own);
+    set32(b, page::FRONT_AT, front);
+    set32(b, page::LSN_AT, own);
 }
 
 // Insert (k, v), record number `own`: done where the page is a leaf with room and without the key.
@@ -88,11 +110,11 @@ fn file_slide(b: &mut [u8], own: u32, k: u32, v: u32) -> bool
     requires { ⌜ length (now b) ≡ page-size ⌝ }
     ensures { λ r. ⌜ Filed own k v (now (b .entry)) r (now (b .exit)) ⌝ }
 {
-    let w = get32(b, 0);
-    if w / 1073741824 != 1 {
+    let w = get32(b, page::FRONT_AT);
+    if w / page::KIND_UNIT != 1 {
         return false;
     }
-    let n = (w / 4194304 % 16) as usize;
+    let n = (w / page::COUNT_UNIT % 16) as usize;
     if n >= ROOM {
         return false;
     }
@@ -101,7 +123,7 @@ fn file_slide(b: &mut [u8], own: u32, k: u32, v: u32) -> bool
     }
     let i = place_of(b, n, k);
     put_in(b, n, i, k, v);
-    stamp(b, w + 4194304, own);
+    stamp(b, w + page::COUNT_UNIT, own);
     true
 }
 
@@ -110,11 +132,11 @@ fn strike_slide(b: &mut [u8], own: u32, k: u32, v: u32) -> bool
     requires { ⌜ length (now b) ≡ page-size ⌝ }
     ensures { λ r. ⌜ Struck own k v (now (b .entry)) r (now (b .exit)) ⌝ }
 {
-    let w = get32(b, 0);
-    if w / 1073741824 != 1 {
+    let w = get32(b, page::FRONT_AT);
+    if w / page::KIND_UNIT != 1 {
         return false;
     }
-    let n = (w / 4194304 % 16) as usize;
+    let n = (w / page::COUNT_UNIT % 16) as usize;
     if n > ROOM {
         return false;
     }
@@ -122,14 +144,14 @@ fn strike_slide(b: &mut [u8], own: u32, k: u32, v: u32) -> bool
     if i >= n {
         return false;
     }
-    if get32(b, 16 + 8 * i) != k {
+    if get32(b, page::ENTRIES_AT + ENTRY_SIZE * i) != k {
         return false;
     }
-    if get32(b, 20 + 8 * i) != v {
+    if get32(b, page::VALUES_AT + ENTRY_SIZE * i) != v {
         return false;
     }
     take_out(b, n, i);
-    stamp(b, w - 4194304, own);
+    stamp(b, w - page::COUNT_UNIT, own);
     true
 }
 

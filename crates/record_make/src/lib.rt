@@ -1,8 +1,8 @@
 // The rows of 01's table of log records, as functions of what they carry.
 use def_layout::Entry;
 use def_layout::ROOM;
-use record_apply::EntryList;
 use record_apply::Record;
+use record_apply::lists::EntryList;
 ghost use mathlib.Core.Path.{_≡_};
 ghost use mathlib.Core.List.{[]};
 ghost use Prim.Native.Nat.{_≤_};

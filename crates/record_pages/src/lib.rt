@@ -6,7 +6,7 @@ use def_layout::MOST_ENTRIES;
 use def_layout::PAGE_SIZE;
 use record_apply::Record;
 use record_apply::apply;
-use record_apply::parts;
+use record_apply::roles::parts;
 ghost use mathlib.Core.List.{List};
 ghost use Prim.Native.Nat.{_≤_};
 ghost use lib.ListN.{set};

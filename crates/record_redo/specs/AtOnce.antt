@@ -36,7 +36,7 @@ use Rattle.record_redo.specs.Slots.{is-full, full-record}
 abbrev pub Done : ℕ → ℕ → List ℕ → List ℕ → ℕ → List ℕ → ℕ → Type 0
 Done n m pages log i after count =
     (xs : List Page) (own : ℕ) (q : Rec) → Pages n pages xs → getD (slots-of m log) i empty ≡ full own q → Keeps (i + 1) q
-    → Answers n after (record { fits = true; count = count }) (one-record (i + 1) q xs)
+    → Answers n after (record { ok = true; count = count }) (one-record (i + 1) q xs)
 
 -- The i-th part of width w, as it is lent; as it was again; and come back.
 abbrev pub lent : ℕ → ℕ → List ℕ → List ℕ
@@ -102,7 +102,7 @@ pub no-page : (n m i w : ℕ) (pages log : List ℕ) → i < m → w ≡ be32 (p
 unfolding places when-named redo-places count-places fits-places
 no-page n m i w pages log h e s xs own q shows stands keeps =
     let z : shape (q .kind) ≡ changes false false false false = ap shape (kind-shown m i log h own q stands w e) ∙ s in
-    subst (Answers n pages (record { fits = true; count = 0 })) (rw z refl) (none-answers xs shows)
+    subst (Answers n pages (record { ok = true; count = 0 })) (rw z refl) (none-answers xs shows)
 
 -- ---- one page
 
@@ -143,24 +143,24 @@ module _ (k : ℕ) (q : Rec) (xs : List Page) (alone : shape (q .kind) ≡ chang
 
   module _ {n : ℕ} {pages : List ℕ} (shows : Pages n pages xs) where
     -- Its number is not lower.
-    pub higher : k ≤ at xs (q .pageA) .lsn → Answers n pages (record { fits = true; count = 0 }) (one-record k q xs)
+    pub higher : k ≤ at xs (q .pageA) .lsn → Answers n pages (record { ok = true; count = 0 }) (one-record k q xs)
     unfolding redo-page redo-at
     higher l =
         let t : is-lower k (q .pageA) xs ≡ false = lt-false (at xs (q .pageA) .lsn) k l in
         let c : redo-page k q (q .pageA) xs ≡ set xs (q .pageA) (at xs (q .pageA)) = rw t in
-        subst (Answers n pages (record { fits = true; count = 0 })) (sym one-page)
+        subst (Answers n pages (record { ok = true; count = 0 })) (sym one-page)
         (record { fits = rw t refl; count = λ w. rw t refl; pages = λ w. subst (Pages n pages) (sym (set-getD xs (q .pageA) zero-page) ∙ sym c) shows })
 
     -- It is lower, the page fits, and its bytes are those of the page that the change makes.
     pub made : {after : List ℕ} → q .pageA < n → at xs (q .pageA) .lsn < k → fits-a (q .kind) q (at xs (q .pageA)) ≡ true
         → after ≡ patch pages (page-size * q .pageA) (page-bytes (with-lsn k (cut-to-size (change-a (q .kind) q (at xs (q .pageA)))))) → Keeps k q
-        → Answers n after (record { fits = true; count = 1 }) (one-record k q xs)
+        → Answers n after (record { ok = true; count = 1 }) (one-record k q xs)
     unfolding redo-page redo-at
     made {after} h l f e keeps =
         let x : Page = at xs (q .pageA) in
         let t : is-lower k (q .pageA) xs ≡ true = lt-true (x .lsn) k l in
         let c : redo-page k q (q .pageA) xs ≡ set xs (q .pageA) (act (q .pageA) k q x) = rw t in
-        subst (Answers n after (record { fits = true; count = 1 })) (sym one-page)
+        subst (Answers n after (record { ok = true; count = 1 })) (sym one-page)
         (record {
           fits = rw t (sym (fits-is x ∙ f));
           count = λ w. rw t refl;
@@ -177,35 +177,44 @@ alone-of kind l h =
       | no q ↦ let e : kind ≡ 3 = omega arith in ap (λ (k : ℕ). shape (kind-of k)) e
     ]
 
-module _ (n m i w v kind p : ℕ) (pages log : List ℕ) (h : i < m) (ew : w ≡ be32 (part log (slot-size * i) slot-size) 0) (ev : v ≡ be32 (part log (slot-size * i) slot-size) 16)
-    (ek : kind ≡ w / 268435456) (low : 2 ≤ kind) (high : kind ≤ 3) (ep : p ≡ v / 4194304) (hp : p < n) where
+-- An insert or a delete in slot i, told by the slot's words: its kind, its page p, and that page's log number l.
+pub record Slide (n m i : ℕ) (pages log : List ℕ) (kind p l : ℕ) : Type 0 where
+  pub slot : i < m
+  pub kind-told : kind ≡ be32 (part log (slot-size * i) slot-size) 0 / 268435456
+  pub low : 2 ≤ kind
+  pub high : kind ≤ 3
+  pub page-told : p ≡ be32 (part log (slot-size * i) slot-size) 16 / 4194304
+  pub page : p < n
+  pub number : l ≡ be32 (part pages (page-size * p) page-size) 8
+
+module _ {n m i kind p l : ℕ} {pages log : List ℕ} (g : Slide n m i pages log kind p l) where
   module _ (own : ℕ) (q : Rec) (stands : getD (slots-of m log) i empty ≡ full own q) where
     kind-is : q .kind ≡ kind-of kind
-    kind-is = kind-shown m i log h own q stands w ew ∙ ap kind-of (sym ek)
+    kind-is = kind-shown m i log (g .slot) own q stands _ refl ∙ ap kind-of (sym (g .kind-told))
 
     alone : shape (q .kind) ≡ changes true false false false
-    alone = ap shape kind-is ∙ alone-of kind low high
+    alone = ap shape kind-is ∙ alone-of kind (g .low) (g .high)
 
     at-page : q .pageA ≡ p
-    at-page = page-shown m i log h own q stands v ev ∙ sym ep
+    at-page = page-shown m i log (g .slot) own q stands _ refl ∙ sym (g .page-told)
 
   -- The page is newer.
-  pub slide-higher : (l : ℕ) → l ≡ be32 (part pages (page-size * p) page-size) 8 → i + 1 ≤ l → Done n m pages log i pages 0
-  slide-higher l el ge xs own q shows stands keeps =
+  pub slide-higher : i + 1 ≤ l → Done n m pages log i pages 0
+  slide-higher ge xs own q shows stands keeps =
       higher (i + 1) q xs (alone own q stands) shows
-      (subst (λ (j : ℕ). i + 1 ≤ at xs j .lsn) (sym (at-page own q stands)) (subst (λ (j : ℕ). i + 1 ≤ j) (lsn-stands xs shows p hp l el) ge))
+      (subst (λ (j : ℕ). i + 1 ≤ at xs j .lsn) (sym (at-page own q stands)) (subst (λ (j : ℕ). i + 1 ≤ j) (lsn-stands xs shows p (g .page) l (g .number)) ge))
 
   -- The change is made.
-  pub slide-done : (l k s : ℕ) (done : Bool) (b : List ℕ) → l ≡ be32 (part pages (page-size * p) page-size) 8 → l < i + 1 → k ≡ be32 (part log (slot-size * i) slot-size) 20 → s ≡ be32 (part log (slot-size * i) slot-size) 24
+  pub slide-done : (k s : ℕ) (done : Bool) (b : List ℕ) → l < i + 1 → k ≡ be32 (part log (slot-size * i) slot-size) 20 → s ≡ be32 (part log (slot-size * i) slot-size) 24
       → Does (kind-of kind) (i + 1) k s (lent page-size p pages) done b → done ≡ true → Done n m pages log i (back page-size p pages b) 1
-  slide-done l k s done b el lt e20 e24 does is xs own q shows stands keeps =
+  slide-done k s done b lt e20 e24 does is xs own q shows stands keeps =
       let e : q .pageA ≡ p = at-page own q stands in
       let x : Page = at xs p in
-      let d = does .1 x q (lent-part page-size p pages ∙ page-stands xs shows p hp) (fits-past xs (shows .fits) p) (key-shown m i log h own q stands k e20) (second-shown m i log h own q stands s e24) is in
+      let d = does .1 x q (lent-part page-size p pages ∙ page-stands xs shows p (g .page)) (fits-past xs (shows .fits) p) (key-shown m i log (g .slot) own q stands k e20) (second-shown m i log (g .slot) own q stands s e24) is in
       let kinds : q .kind ≡ kind-of kind = kind-is own q stands in
       let size : length b ≡ page-size = ap length (d .1) ∙ page-bytes-length _ in
-      made (i + 1) q xs (alone own q stands) shows (subst (λ (j : ℕ). j < n) (sym e) hp)
-      (subst (λ (j : ℕ). at xs j .lsn < i + 1) (sym e) (subst (λ (j : ℕ). j < i + 1) (lsn-stands xs shows p hp l el) lt))
+      made (i + 1) q xs (alone own q stands) shows (subst (λ (j : ℕ). j < n) (sym e) (g .page))
+      (subst (λ (j : ℕ). at xs j .lsn < i + 1) (sym e) (subst (λ (j : ℕ). j < i + 1) (lsn-stands xs shows p (g .page) l (g .number)) lt))
       (subst (λ (j : ℕ). fits-a (q .kind) q (at xs j) ≡ true) (sym e) (subst (λ (c : Kind). fits-a c q x ≡ true) (sym kinds) (d .0)))
       (patch-back pages (page-size * p) (page-size * p + page-size) b (omega (arith, size))
       ∙ ap (patch pages (page-size * p)) (d .1) ∙ ap (λ (c : Kind). patch pages (page-size * p) (page-bytes (with-lsn (i + 1) (cut-to-size (change-a c q x))))) (sym kinds)

@@ -86,7 +86,7 @@ whole-append k (r ∷ l) l′ xs =
 -- Of any pages and any log of so many records that the areas showed at the start: after i turns the first i are done.
 abbrev pub Turned : ℕ → ℕ → ℕ → List ℕ → List ℕ → List ℕ → ℕ → ℕ → Type 0
 Turned n m logged pages log now count i =
-    (xs : List Page) (l : List Rec) → Pages n pages xs → Logged m log l → length l ≡ logged → Answers n now (record { fits = true; count = count }) (whole 1 (take i l) xs)
+    (xs : List Page) (l : List Rec) → Pages n pages xs → Logged m log l → length l ≡ logged → Answers n now (record { ok = true; count = count }) (whole 1 (take i l) xs)
 
 pub no-turn : (n m logged : ℕ) (pages log : List ℕ) → Turned n m logged pages log pages 0 0
 unfolding replay redo-count redo-fits
@@ -107,7 +107,7 @@ long-way {n} {after = after} m i area r d tells same a xs own q shows stands few
 
 module _ {n m : ℕ} {area before after : List ℕ} (i count : ℕ) (d : Redone) (turn : Slot n m before area i after d) where
   module _ (xs : List Page) (l : List Rec) (g : Logged m area l) (h : i < length l)
-      (s : Answers n before (record { fits = true; count = count }) (whole 1 (take i l) xs)) where
+      (s : Answers n before (record { ok = true; count = count }) (whole 1 (take i l) xs)) where
     abbrev q : Rec
     q = getD l i no-rec
 
@@ -120,7 +120,7 @@ module _ {n m : ℕ} {area before after : List ℕ} (i count : ℕ) (d : Redone)
     number : 1 + length (take i l) ≡ i + 1
     number = omega (arith, length-take-le i l (omega arith))
 
-    pub turn-on : d .fits ≡ true → Answers n after (record { fits = true; count = count + d .count }) (whole 1 (take (i + 1) l) xs)
+    pub turn-on : d .ok ≡ true → Answers n after (record { ok = true; count = count + d .count }) (whole 1 (take (i + 1) l) xs)
     turn-on f =
         let e : suc i ≡ i + 1 = omega arith in
         let w : followed (whole 1 (take i l) xs) (one-record (i + 1) q ys) ≡ whole 1 (take (i + 1) l) xs =
@@ -128,9 +128,9 @@ module _ {n m : ℕ} {area before after : List ℕ} (i count : ℕ) (d : Redone)
         ∙ ap (λ (z : List Rec). whole 1 z xs) (take-suc l i no-rec h)
         ∙ whole-append 1 (take i l) (q ∷ []) xs
         ∙ ap (followed (whole 1 (take i l) xs)) (record-alone (1 + length (take i l)) q ys ∙ ap (λ (k : ℕ). one-record k q ys) number)) in
-        subst (Answers n after (record { fits = true; count = count + d .count })) w (both-answer (record { fits = true; count = count }) (whole 1 (take i l) xs) s refl d (one-record (i + 1) q ys) one f)
+        subst (Answers n after (record { ok = true; count = count + d .count })) w (both-answer (record { ok = true; count = count }) (whole 1 (take i l) xs) s refl d (one-record (i + 1) q ys) one f)
 
-    pub turn-off : d .fits ≡ false → Answers n after d (whole 1 l xs)
+    pub turn-off : d .ok ≡ false → Answers n after d (whole 1 l xs)
     turn-off f =
         let rest : List Rec = drop (suc i) l in
         let zs : List Page = redo-record (i + 1) q ys in
@@ -139,7 +139,7 @@ module _ {n m : ℕ} {area before after : List ℕ} (i count : ℕ) (d : Redone)
         ∙ whole-append 1 (take i l) (q ∷ rest) xs
         ∙ ap (followed (whole 1 (take i l) xs)) (ap (λ (k : ℕ). whole k (q ∷ rest) ys) number ∙ record-first (i + 1) q rest ys)) in
         subst (Answers n after d) w
-        (is-misfit (record { fits = true; count = count }) (whole 1 (take i l) xs) s refl d (followed (one-record (i + 1) q ys) (whole (suc (i + 1)) rest zs))
+        (is-misfit (record { ok = true; count = count }) (whole 1 (take i l) xs) s refl d (followed (one-record (i + 1) q ys) (whole (suc (i + 1)) rest zs))
         (was-misfit d (one-record (i + 1) q ys) one (whole (suc (i + 1)) rest zs) f) f)
 
 -- All are done.

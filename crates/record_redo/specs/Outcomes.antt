@@ -37,12 +37,12 @@ whole k l xs = record { fits = redo-fits k l xs; count = redo-count k l xs; page
 
 -- The program's answer says so; of a change that does not fit it says no more than that.
 pub record Answers (n : ℕ) (area : List ℕ) (d : Redone) (o : Outcome) : Type 0 where
-  pub fits : d .fits ≡ o .fits
-  pub count : d .fits ≡ true → d .count ≡ o .count
-  pub pages : d .fits ≡ true → Pages n area (o .pages)
+  pub fits : d .ok ≡ o .fits
+  pub count : d .ok ≡ true → d .count ≡ o .count
+  pub pages : d .ok ≡ true → Pages n area (o .pages)
 
 -- Where a change does not fit.
-pub misfit-answers : {n : ℕ} {area : List ℕ} (d : Redone) (o : Outcome) → d .fits ≡ false → o .fits ≡ false → Answers n area d o
+pub misfit-answers : {n : ℕ} {area : List ℕ} (d : Redone) (o : Outcome) → d .ok ≡ false → o .fits ≡ false → Answers n area d o
 misfit-answers d o t f = record { fits = t ∙ sym f; count = λ w. clash (sym w ∙ t); pages = λ w. clash (sym w ∙ t) }
 
 -- ---- one after the other
@@ -76,26 +76,26 @@ pub nothing-followed : (xs : List Page) (a : Outcome) → followed (nothing xs) 
 nothing-followed xs a = ap (λ (n : ℕ). record { fits = a .fits; count = n; pages = a .pages }) (zero-add (a .count))
 
 -- The program's answer to that.
-pub none-answers : {n : ℕ} {area : List ℕ} (xs : List Page) → Pages n area xs → Answers n area (record { fits = true; count = 0 }) (nothing xs)
+pub none-answers : {n : ℕ} {area : List ℕ} (xs : List Page) → Pages n area xs → Answers n area (record { ok = true; count = 0 }) (nothing xs)
 none-answers xs h = record { fits = refl; count = λ w. refl; pages = λ w. h }
 
 -- ---- the program's answer after what was done so far
 
 module _ {n : ℕ} {area : List ℕ} (d : Redone) (o : Outcome) (h : Answers n area d o) where
-  pub was-misfit : {area′ : List ℕ} (a : Outcome) → d .fits ≡ false → Answers n area′ d (followed o a)
+  pub was-misfit : {area′ : List ℕ} (a : Outcome) → d .ok ≡ false → Answers n area′ d (followed o a)
   was-misfit a t = misfit-answers d (followed o a) t (ap (λ (f : Bool). f && a .fits) (sym (h .fits) ∙ t))
 
   pub nothing-answers : Answers n area d (followed o (nothing (o .pages)))
   nothing-answers = subst (Answers n area d) (sym (followed-nothing o)) h
 
-  module _ (t : d .fits ≡ true) {area′ : List ℕ} (e : Redone) (a : Outcome) (k : Answers n area′ e a) where
-    both-fit : (f : Bool) → e .fits ≡ f → o .fits && a .fits ≡ f
+  module _ (t : d .ok ≡ true) {area′ : List ℕ} (e : Redone) (a : Outcome) (k : Answers n area′ e a) where
+    both-fit : (f : Bool) → e .ok ≡ f → o .fits && a .fits ≡ f
     both-fit f u = ap₂ (λ (v w : Bool). v && w) (sym (h .fits) ∙ t) (sym (k .fits) ∙ u)
 
-    pub is-misfit : e .fits ≡ false → Answers n area′ e (followed o a)
+    pub is-misfit : e .ok ≡ false → Answers n area′ e (followed o a)
     is-misfit u = misfit-answers e (followed o a) u (both-fit false u)
 
-    pub both-answer : e .fits ≡ true → Answers n area′ (record { fits = true; count = d .count + e .count }) (followed o a)
+    pub both-answer : e .ok ≡ true → Answers n area′ (record { ok = true; count = d .count + e .count }) (followed o a)
     both-answer u =
         record {
           fits = sym (both-fit true u);

@@ -28,15 +28,15 @@ module _ {n : ℕ} {area : List ℕ} (k p : ℕ) (r : Rec) (x : program.Page) (x
   fits-is : {t : Bool} → fits p r (typed x) ≡ t → fits p r (at xs p) ≡ t
   fits-is e = ap (fits p r) (sym (q .is)) ∙ e
 
-  pub pair-higher : k ≤ x .lsn → Answers n area (record { fits = true; count = 0 }) (pair k r p xs)
+  pub pair-higher : k ≤ x .lsn → Answers n area (record { ok = true; count = 0 }) (pair k r p xs)
   pair-higher l =
       let t : is-lower k p xs ≡ false = lt-false (at xs p .lsn) k (subst (λ (i : ℕ). k ≤ i) lsn-is l) in
       record { fits = rw t refl; count = λ w. rw t refl; pages = λ w. redo-higher k p r x xs h q l }
 
-  pub pair-misfit : x .lsn < k → fits p r (typed x) ≡ false → Answers n area (record { fits = false; count = 0 }) (pair k r p xs)
-  pair-misfit l e = misfit-answers (record { fits = false; count = 0 }) (pair k r p xs) refl (rw (lower-is l) (fits-is e))
+  pub pair-misfit : x .lsn < k → fits p r (typed x) ≡ false → Answers n area (record { ok = false; count = 0 }) (pair k r p xs)
+  pair-misfit l e = misfit-answers (record { ok = false; count = 0 }) (pair k r p xs) refl (rw (lower-is l) (fits-is e))
 
   pub pair-done : {area′ : List ℕ} (y : program.Page) → x .lsn < k → fits p r (typed x) ≡ true → typed y ≡ act p k r (typed x)
-      → (Fits (typed y) → Pages n area′ (set xs p (typed y))) → Keeps k r → Answers n area′ (record { fits = true; count = 1 }) (pair k r p xs)
+      → (Fits (typed y) → Pages n area′ (set xs p (typed y))) → Keeps k r → Answers n area′ (record { ok = true; count = 1 }) (pair k r p xs)
   pair-done y l e a put keeps =
       record { fits = rw (lower-is l) (sym (fits-is e)); count = λ w. rw (lower-is l) refl; pages = λ w. redo-lower k p r x xs h q y l a put keeps }

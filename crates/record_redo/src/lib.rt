@@ -7,9 +7,11 @@ use def_layout::MOST_ENTRIES;
 use def_layout::PAGE_SIZE;
 use def_layout::ROOM;
 use def_layout::SLOT_SIZE;
+use def_layout::page;
+use def_layout::slot;
 use record_apply::Record;
 use record_apply::apply;
-use record_apply::parts;
+use record_apply::roles::parts;
 use record_fit::fits;
 use record_leaf::slide_made;
 use record_pages::page_at;
@@ -31,9 +33,9 @@ ghost use Rattle.record_redo.specs.Slots.{Tells};
 ghost use Rattle.record_redo.specs.AtOnce.{Done};
 ghost use Rattle.record_redo.specs.Outcomes.{Outcome, Answers, pair, part, followed, one-record, whole};
 
-// Whether every change that was reached fits its page, and how many of them were applied.
+// Whether every change that was reached fits its page, and if so how many of them were applied.
 pub struct Redone {
-    pub fits: bool,
+    pub ok: bool,
     pub count: u32,
 }
 
@@ -114,27 +116,21 @@ pub fn record_at(log: &[u8], m: usize, i: usize) -> Record
 // Record r, number k, at page p. A page whose number is lower must fit: one that does not is left as it is.
 pub fn redo_checked(pages: &mut [u8], n: usize, r: Record, k: u32, p: u32) -> Redone
     requires { ⌜ HasPages n (now pages) × (r .count ≤ room) ⌝ }
-    ensures { λ d. ⌜ (d .count ≤ 1) × (d .fits ≡ false → now (pages .exit) ≡ now (pages .entry)) × ((xs : List layout.Page) → Pages n (now (pages .entry)) xs → Keeps k (rec r) → Answers n (now (pages .exit)) d (pair k (rec r) p xs)) ⌝ }
+    ensures { λ d. ⌜ (d .count ≤ 1) × (d .ok ≡ false → now (pages .exit) ≡ now (pages .entry)) × ((xs : List layout.Page) → Pages n (now (pages .entry)) xs → Keeps k (rec r) → Answers n (now (pages .exit)) d (pair k (rec r) p xs)) ⌝ }
 {
     let x = page_at(pages, n, p);
     if x.lsn >= k {
-        return Redone {
-            fits: true,
-            count: 0,
-        };
+        return Redone { ok: true, count: 0 };
     }
     if !fits(r, p as usize, x) {
         return Redone {
-            fits: false,
+            ok: false,
             count: 0,
         };
     }
     let y = apply(r, k, p as usize, x);
     put_page(pages, n, p, y);
-    Redone {
-        fits: true,
-        count: 1,
-    }
+    Redone { ok: true, count: 1 }
 }
 
 // The same after what was done so far, where that fits and the record has the part.
@@ -150,18 +146,18 @@ fn redo_part(
     requires { ⌜ HasPages n (now pages) × (r .count ≤ room) × (done .count ≤ 3) ⌝ }
     ensures { λ d. ⌜ (d .count ≤ done .count + 1) × ((o : Outcome) → Answers n (now (pages .entry)) done o → Keeps k (rec r) → Answers n (now (pages .exit)) d (followed o (part on k (rec r) p (o .pages)))) ⌝ }
 {
-    if !done.fits {
+    if !done.ok {
         return done;
     }
     if !on {
         return done;
     }
     let d = redo_checked(pages, n, r, k, p);
-    if !d.fits {
+    if !d.ok {
         return d;
     }
     Redone {
-        fits: true,
+        ok: true,
         count: done.count + d.count,
     }
 }
@@ -172,10 +168,7 @@ pub fn redo_places(pages: &mut [u8], n: usize, r: Record, k: u32) -> Redone
     ensures { λ d. ⌜ (d .count ≤ 4) × ((xs : List layout.Page) → Pages n (now (pages .entry)) xs → Keeps k (rec r) → Answers n (now (pages .exit)) d (one-record k (rec r) xs)) ⌝ }
 {
     let bits = parts(r.kind);
-    let none = Redone {
-        fits: true,
-        count: 0,
-    };
+    let none = Redone { ok: true, count: 0 };
     let a = redo_part(pages, n, r, k, bits / 8 % 2 == 1, r.a, none);
     let b = redo_part(pages, n, r, k, bits / 4 % 2 == 1, r.b, a);
     let c = redo_part(pages, n, r, k, bits / 2 % 2 == 1, r.c, b);
@@ -209,8 +202,8 @@ fn redo_slide(pages: &mut [u8], n: usize, log: &[u8], m: usize, i: usize) -> AtO
     ensures { λ d. ⌜ (d .count ≤ 1) × (d .done ≡ false → now (pages .exit) ≡ now (pages .entry)) × (d .done ≡ true → Done n m (now (pages .entry)) (now (log .entry)) i (now (pages .exit)) (d .count)) ⌝ }
 {
     let s = &log[SLOT_SIZE * i..SLOT_SIZE * i + SLOT_SIZE];
-    let kind = get32(s, 0) / 268435456;
-    let a = (get32(s, 16) / 4194304) as usize;
+    let kind = get32(s, slot::FRONT_AT) / slot::KIND_UNIT;
+    let a = (get32(s, slot::PAGES_AT) / slot::A_UNIT) as usize;
     if kind < 2 {
         return not_yet();
     }
@@ -222,11 +215,11 @@ fn redo_slide(pages: &mut [u8], n: usize, log: &[u8], m: usize, i: usize) -> AtO
     }
     let own = (i + 1) as u32;
     let page = &pages[PAGE_SIZE * a..PAGE_SIZE * a + PAGE_SIZE];
-    if get32(page, 8) >= own {
+    if get32(page, page::LSN_AT) >= own {
         return at_once(0);
     }
-    let key = get32(s, 20);
-    let second = get32(s, 24);
+    let key = get32(s, slot::KEY_AT);
+    let second = get32(s, slot::SECOND_AT);
     let b = &mut pages[PAGE_SIZE * a..PAGE_SIZE * a + PAGE_SIZE];
     if !slide_made(b, kind, own, key, second) {
         return not_yet();
@@ -240,23 +233,17 @@ fn redo_slot(pages: &mut [u8], n: usize, log: &[u8], m: usize, i: usize) -> Redo
     ensures { λ d. ⌜ (d .count ≤ 4) × Slot n m (now (pages .entry)) (now (log .entry)) i (now (pages .exit)) d ⌝ }
 {
     let s = &log[SLOT_SIZE * i..SLOT_SIZE * i + SLOT_SIZE];
-    let kind = get32(s, 0) / 268435456;
+    let kind = get32(s, slot::FRONT_AT) / slot::KIND_UNIT;
     if kind == 1 {
-        return Redone {
-            fits: true,
-            count: 0,
-        };
+        return Redone { ok: true, count: 0 };
     }
     if kind == 6 {
-        return Redone {
-            fits: true,
-            count: 0,
-        };
+        return Redone { ok: true, count: 0 };
     }
     let x = redo_slide(pages, n, log, m, i);
     if x.done {
         return Redone {
-            fits: true,
+            ok: true,
             count: x.count,
         };
     }
@@ -273,11 +260,11 @@ pub fn redo_log(pages: &mut [u8], log: &[u8], n: usize, m: usize, logged: u32) -
     let mut i: u32 = 0;
     while i < logged {
         let d = redo_slot(pages, n, log, m, i as usize);
-        if !d.fits {
+        if !d.ok {
             return d;
         }
         count = count + d.count;
         i = i + 1;
     }
-    Redone { fits: true, count }
+    Redone { ok: true, count }
 }

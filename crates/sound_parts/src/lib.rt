@@ -9,6 +9,7 @@ use def_layout::Desk;
 use def_layout::PAGE_SIZE;
 use def_layout::Row;
 use def_layout::SLOT_SIZE;
+use def_layout::page;
 ghost use mathlib.Core.Path.{_≡_};
 ghost use mathlib.Core.List.{List};
 ghost use Prim.Native.Nat.{_-_, _*_, _%_, _≤_, _<_};
@@ -61,7 +62,7 @@ pub fn numbers_ok(pages: &[u8], n: usize, last: u32) -> bool
 {
     let mut p = 0;
     while p < n {
-        if last < get32(pages, PAGE_SIZE * p + 8) {
+        if last < get32(pages, PAGE_SIZE * p + page::LSN_AT) {
             return false;
         }
         p += 1;

@@ -2,9 +2,9 @@
 use codec_entries::entry_in;
 use codec_page::Page;
 use def_layout::MOST_ENTRIES;
-use record_apply::EntryList;
 use record_apply::Record;
-use record_apply::without_first;
+use record_apply::lists::EntryList;
+use record_apply::lists::without_first;
 use record_make::data_row;
 use record_make::link_row;
 use record_make::raise_row;

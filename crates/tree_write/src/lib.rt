@@ -25,7 +25,8 @@ ghost use Rattle.record_apply.specs.Pages.{rec};
 ghost use Rattle.record_pages.specs.Pages.{Pages};
 ghost use Rattle.tree_write.specs.Shows.{Shows, Keeping};
 
-// Where a run stands: the last record's number, and why it stopped (0: it goes on; else 17 or 18).
+// Where a run stands: the last record's number, and why it stopped (0: it goes on; else 17 or 18). A number and no `ok`: it is the field of the
+// definition's own run, `def_model/Update: Run.stop`, which a stopped run carries on.
 pub struct Run {
     pub logged: u32,
     pub stop: u32,

@@ -2,6 +2,7 @@
 use borrow.Author.Needs.{needs}
 use Rattle.call_register.proofs.fetch.Statement.{statement}
 use Rattle.call_register.proofs.fetch.Tie as tie
+use borrow.Author.Tests.{not-true, not-false}
 use mathlib.Core.Path.{refl}
 
 pub fetch-spec : {M : Type 1} → statement M
@@ -10,6 +11,6 @@ fetch-spec =
     (tie.spec
     (λ c κs. search needs)
     (λ c κs. search needs)
-    (λ c budget. c .before .before .enter .ensures .refuses (c .before .if1 .taken) _ budget _ (c .refused .ensures) refl)
-    (λ c κs. c .before .enter .ensures .sizes (c .if1 .left) .0 .0)
-    (λ c budget. c .fetch-in .ensures budget _ _ _ (c .before .before .enter .ensures .given (c .before .if1 .left))))
+    (λ c budget. c .before .before .before .enter .ensures .refuses (not-true _ (c .before .if1 .taken)) _ budget _ (c .refused .ensures) refl)
+    (λ c κs. c .before .before .enter .ensures .sizes (not-false _ (c .if1 .left)) .0 .0)
+    (λ c budget. c .fetch-in .ensures budget _ _ _ (c .before .before .before .enter .ensures .given (not-false _ (c .before .if1 .left)))))

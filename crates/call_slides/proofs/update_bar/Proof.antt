@@ -3,7 +3,7 @@ use borrow.Author.Needs.{needs}
 use Rattle.call_slides.proofs.update_bar.Statement.{statement}
 use Rattle.call_slides.proofs.update_bar.Tie as tie
 use borrow.Author.Tests.{not-true, not-false}
-use mathlib.Core.Path.{_∙_, sym}
+use mathlib.Core.Path.{_∙_, sym, refl}
 use Prim.Native.Nat.{_<_}
 use native.Mathlib.Omega.{arith}
 use Rattle.call_slides.specs.Given.{live-not, live-is}
@@ -43,7 +43,7 @@ returns-6 : tie.Need-returns-6
 returns-6 c =
     let o = c .before .before .before .before .before .before .before .before .before .before .before .before .before .live-row in
     let i : o .result < 8 = omega (arith, c .before .before .before .before .before .before .before .before .before .before .before .before .if1 .left, o .ensures .0) in
-    (o .ensures .0, λ n wp sp sl g. no-stop g _ _ _ _ _ (live-is g _ _ i (o .ensures .1)) (sym (c .before .before .before .before .before .before .before .before .before .before .before .held .ensures _ _ (held-known g)) ∙ c .before .before .before .before .before .before .before .before .before .before .if2 .left) (c .before .before .before .before .before .before .before .before .before .if3 .left) _ (c .before .before .before .before .before .before .before .used-rows .ensures .0) (sym (c .before .before .before .before .update-has-slots .ensures) ∙ not-false _ (c .before .before .before .if4 .left)) (sym (c .before .update-has-pages .ensures) ∙ not-false _ (c .if5 .left)) (o .ensures .1 .place i) i)
+    (i, λ n wp sp sl g. no-stop g _ _ _ _ _ (live-is g _ _ i (o .ensures .1)) (sym (c .before .before .before .before .before .before .before .before .before .before .before .held .ensures _ _ (held-known g)) ∙ c .before .before .before .before .before .before .before .before .before .before .if2 .left) (c .before .before .before .before .before .before .before .before .before .if3 .left) _ (c .before .before .before .before .before .before .before .used-rows .ensures .0) (sym (c .before .before .before .before .update-has-slots .ensures) ∙ not-false _ (c .before .before .before .if4 .left)) (sym (c .before .update-has-pages .ensures) ∙ not-false _ (c .if5 .left)) refl (o .ensures .1 .place i) i)
 
 pub update-bar-spec : {M : Type 1} → statement M
 update-bar-spec =

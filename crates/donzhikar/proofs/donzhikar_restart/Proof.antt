@@ -2,6 +2,7 @@
 use borrow.Author.Needs.{needs}
 use Rattle.donzhikar.proofs.donzhikar_restart.Statement.{statement}
 use Rattle.donzhikar.proofs.donzhikar_restart.Tie as tie
+use borrow.Author.Tests.{not-true, not-false}
 use mathlib.Core.Path.{refl, _∙_}
 
 pub donzhikar-restart-spec : {M : Type 1} → statement M
@@ -12,12 +13,12 @@ donzhikar-restart-spec =
     (λ c κs. search needs)
     (λ c. search needs)
     (λ c. search needs)
-    (λ c. c .before .before .before .before .refuse .ensures _ _ refl (c .before .before .before .before .before .before .before .before .asked .ensures .wrong (c .before .before .before .before .before .before .before .if1 .taken)))
+    (λ c. c .before .before .before .before .refuse .ensures _ _ refl (c .before .before .before .before .before .before .before .before .before .asked .ensures .wrong (not-true _ (c .before .before .before .before .before .before .before .if1 .taken))))
     (λ c κs. search needs)
-    (λ c κs. c .before .before .before .before .before .before .before .before .before .before .before .before .before .before .asked .ensures .sizes (c .before .before .before .before .before .before .before .before .before .before .before .before .before .if1 .left))
+    (λ c κs. c .before .before .before .before .before .before .before .before .before .before .before .before .before .before .before .asked .ensures .sizes (not-false _ (c .before .before .before .before .before .before .before .before .before .before .before .before .before .if1 .left)))
     (λ c. search needs)
     (λ c. search needs)
     (λ c. search needs)
     (λ c. search needs)
     (λ c. search needs)
-    (λ c. c .before .before .before .before .give .ensures _ _ _ _ (c .before .before .before .before .before .before .before .before .before .before .before .before .before .restart .ensures) ∙ c .before .before .before .before .before .before .before .before .before .before .before .before .before .before .before .before .before .before .before .asked .ensures .asks (c .before .before .before .before .before .before .before .before .before .before .before .before .before .before .before .before .before .before .if1 .left) _ _))
+    (λ c. c .before .before .before .before .give .ensures _ _ _ _ (c .before .before .before .before .before .before .before .before .before .before .before .before .before .restart .ensures) ∙ c .before .before .before .before .before .before .before .before .before .before .before .before .before .before .before .before .before .before .before .before .asked .ensures .asks (not-false _ (c .before .before .before .before .before .before .before .before .before .before .before .before .before .before .before .before .before .before .if1 .left)) _ _))
