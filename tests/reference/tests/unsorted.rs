@@ -1,4 +1,4 @@
-//! What refusal 5 asks where entries do not rise: of a forged leaf or index page, and of the page that takes moved entries.
+//! What refusal 5 asks where entries do not rise: of a forged leaf or index page, and of pages that take or give entries.
 
 use reference::calls::{call, Answer, Call, Outcome};
 use reference::layout::{Areas, Desk, Entry, Kind, Page, PageKind, Pages, Record};
@@ -110,29 +110,108 @@ fn is_refused(pages: &Pages, record: &Record) -> bool {
     }
 }
 
+/// Whether this page refuses its part of a record. All others have been stored with the change.
+fn page_refuses(page: Page, record: &Record) -> bool {
+    let mut pages = Pages::formatted(16);
+    pages.list.iter_mut().for_each(|other| other.log = record.own);
+    let own = page.own;
+    pages.list[own] = page;
+    is_refused(&pages, record)
+}
+
+/// A record of this kind from `LEFT` to `RIGHT` that moves these entries.
+fn moving(kind: Kind, key: u32, moved: &[u32]) -> Record {
+    Record { own: 1, a: LEFT, b: RIGHT, key, entries: entries(moved), ..Record::new(kind) }
+}
+
+#[test]
+fn an_addition_asks_for_a_leaf_with_room() {
+    let insert = Record { own: 2, a: LEFT, key: 15, ..Record::new(Kind::Insert) };
+    let falling: Vec<u32> = (1..=14).rev().collect();
+    assert!(page_refuses(page(LEFT, 0, 0, &falling), &insert), "14 entries");
+    assert!(!page_refuses(page(LEFT, 0, 0, &falling[1..]), &insert), "13 entries");
+    assert!(page_refuses(page(LEFT, 1, 0, &falling[1..]), &insert), "an index");
+}
+
+#[test]
+fn of_a_key_that_stands_twice_the_first_is_looked_at() {
+    let twice = [Entry::new(10, 6), Entry::new(10, 7), Entry::new(20, 8)];
+    let refuses = |level, kind, [key, second]: [u32; 2], [b, c]: [usize; 2]| {
+        let record = Record { own: 2, a: LEFT, b, c, key, second, ..Record::new(kind) };
+        page_refuses(Page { entries: twice.to_vec(), ..page(LEFT, level, 0, &[]) }, &record)
+    };
+    assert!(!refuses(0, Kind::Delete, [10, 6], [0, 0]), "a delete of the first");
+    assert!(refuses(0, Kind::Delete, [10, 7], [0, 0]), "a delete of the second");
+    assert!(!refuses(0, Kind::UndoInsert, [10, 0], [0, 0]), "an undo-insert");
+    assert!(refuses(0, Kind::Insert, [10, 9], [0, 0]), "an insert");
+    assert!(!refuses(1, Kind::Link, [5, 10], [6, 9]), "a link at the first");
+    assert!(refuses(1, Kind::Link, [5, 10], [7, 9]), "a link at the second");
+    assert!(!refuses(1, Kind::Unlink, [10, 10], [6, 7]), "an unlink of both");
+    assert!(refuses(1, Kind::Unlink, [10, 20], [7, 8]), "an unlink from the second on");
+}
+
 #[test]
 fn a_link_or_unlink_meets_its_entries_by_the_one_search() {
     let mut pages = Pages::formatted(16);
     pages.list[LEFT] = page(LEFT, 1, 0, &[30, 10, 20]);
     let record = |kind, key, second, b, c| Record { own: 1, a: LEFT, b, c, key, second, ..Record::new(kind) };
     assert!(is_refused(&pages, &record(Kind::Link, 5, 10, 110, 9)));
+    assert!(is_refused(&pages, &record(Kind::Link, 15, 20, 120, 9)));
     assert!(!is_refused(&pages, &record(Kind::Link, 25, 30, 130, 9)));
     assert!(is_refused(&pages, &record(Kind::Unlink, 10, 20, 110, 120)));
     assert!(!is_refused(&pages, &record(Kind::Unlink, 30, 10, 130, 110)));
+    // The search is for an unlink's key, not for its second.
+    pages.list[LEFT] = page(LEFT, 1, 0, &[10, 30, 20]);
+    assert!(!is_refused(&pages, &record(Kind::Unlink, 30, 20, 130, 120)));
+    pages.list[LEFT] = page(LEFT, 1, 0, &[15, 10, 20]);
+    assert!(is_refused(&pages, &record(Kind::Unlink, 10, 20, 110, 120)));
 }
 
-/// Whether the page that takes the moved entries refuses them. The other one has been stored with the change.
+#[test]
+fn the_key_of_a_link_lies_between_two_entries_alone() {
+    let refuses = |has: &[u32], key| {
+        let record = Record { own: 1, a: LEFT, b: 200, c: 9, key, second: 100, ..Record::new(Kind::Link) };
+        page_refuses(page(LEFT, 1, 0, has), &record)
+    };
+    assert!(refuses(&[50, 10, 100], 10), "at the entry before");
+    assert!(!refuses(&[50, 10, 100], 11), "above it, and below one further left");
+    assert!(!refuses(&[50, 10, 100], 50), "at one further left");
+    assert!(!refuses(&[10, 100, 20], 20), "at one further right");
+    assert!(!refuses(&[50, 10, 100], 99), "below second");
+    assert!(refuses(&[50, 10, 100], 100), "at second");
+    let falling_to_100: Vec<u32> = (1..=13).rev().chain([100]).collect();
+    assert!(refuses(&falling_to_100, 90), "14 entries");
+    assert!(!refuses(&falling_to_100[1..], 90), "13 entries");
+}
+
+#[test]
+fn a_split_is_judged_by_place() {
+    let falling: Vec<u32> = (1..=14).rev().collect();
+    let refuses = |key, moved: &[u32]| {
+        let refused = [0, 1].map(|level| {
+            page_refuses(page(LEFT, level, 0, &falling), &Record { level, ..moving(Kind::Split, key, moved) })
+        });
+        assert_eq!(refused[0], refused[1], "leaf and index alike");
+        refused[0]
+    };
+    assert!(!refuses(8, &falling[7..]), "the key before the moved ones, and above them");
+    assert!(refuses(9, &falling[7..]), "the key further left");
+    assert!(refuses(8, &[1, 2, 3, 4, 5, 6, 7]), "moved in another order");
+    assert!(refuses(8, &falling[..7]), "moved from the beginning");
+    assert!(!refuses(1, &[]), "none moved, and the last one's key");
+    assert!(refuses(14, &[]), "none moved, and the greatest key");
+    assert!((0..=15).all(|key| refuses(key, &falling)), "all moved");
+}
+
+/// Whether the page that takes the moved entries refuses them, as a leaf and as an index.
+fn takers_refuse(taker: usize, has: &[u32], record: &Record) -> [bool; 2] {
+    let right = if taker == LEFT { RIGHT } else { 0 };
+    [0, 1].map(|level| page_refuses(page(taker, level, right, has), record))
+}
+
+/// The same, where a leaf and an index answer alike.
 fn taker_refuses(kind: Kind, taker: usize, has: &[u32], moved: &[u32], key: u32) -> bool {
-    let refused = [0, 1].map(|level| {
-        let mut pages = Pages::formatted(16);
-        pages.list[LEFT] = page(LEFT, level, RIGHT, has);
-        pages.list[RIGHT] = page(RIGHT, level, 0, has);
-        let record = Record { own: 1, a: LEFT, b: RIGHT, key, entries: entries(moved), ..Record::new(kind) };
-        for stored in [0, LEFT, RIGHT].into_iter().filter(|page| *page != taker) {
-            pages.list[stored].log = 1;
-        }
-        is_refused(&pages, &record)
-    });
+    let refused = takers_refuse(taker, has, &moving(kind, key, moved));
     assert_eq!(refused[0], refused[1], "leaf and index alike");
     refused[0]
 }
@@ -158,6 +237,78 @@ fn what_moves_into_b_stands_before_its_first_entry() {
     assert!(!refuses(&[20, 10], &[25, 15]), "no other entries are asked");
     assert!(!refuses(&[], &[10, 20]), "into none");
     assert!(!refuses(&[20, 30], &[]), "of none");
+}
+
+#[test]
+fn the_taker_has_room_and_an_index_takes_children() {
+    let falling: Vec<u32> = (30..43).rev().collect();
+    let (into_a, into_b) = ([50, 51], [10, 11]);
+    for (kind, taker, moved, key) in [
+        (Kind::Merge, LEFT, into_a, 51),
+        (Kind::Redistribute, LEFT, into_a, 51),
+        (Kind::Redistribute, RIGHT, into_b, 1),
+    ] {
+        assert!(taker_refuses(kind, taker, &falling, &moved, key), "{kind:?}: 13 and 2");
+        assert!(!taker_refuses(kind, taker, &falling[1..], &moved, key), "{kind:?}: 12 and 2");
+        let mut record = moving(kind, key, &moved);
+        record.entries[1].value = 1023;
+        assert_eq!(takers_refuse(taker, &[40, 30], &record), [false, false], "{kind:?}: a child of ten bits");
+        record.entries[1].value = 1024;
+        assert_eq!(takers_refuse(taker, &[40, 30], &record), [false, true], "{kind:?}: more than a child's ten bits");
+    }
+}
+
+#[test]
+fn the_page_that_gives_is_judged_by_place() {
+    let freed = |has: &[u32], moved: &[u32]| page_refuses(page(RIGHT, 0, 0, has), &moving(Kind::Merge, TOP, moved));
+    assert!(!freed(&[30, 10, 20], &[30, 10, 20]));
+    assert!(freed(&[30, 10, 20], &[10, 20, 30]), "in another order");
+    assert!(freed(&[30, 10, 20], &[30, 10]), "not all");
+    assert!(page_refuses(Page::free(RIGHT, 0), &moving(Kind::Merge, TOP, &[])), "none of a free page");
+    let gives_b = |has, moved| page_refuses(page(RIGHT, 0, 0, has), &moving(Kind::Redistribute, 30, moved));
+    assert!(!gives_b(&[30, 10, 20], &[30, 10]), "B's first");
+    assert!(gives_b(&[30, 10, 20], &[10, 30]), "B's first in another order");
+    assert!(gives_b(&[30, 10, 20], &[10, 20]), "B's last");
+    assert!(!gives_b(&[30, 10, 20], &[30, 10, 20]), "all of B");
+    let gives_a = |has, key, moved| page_refuses(page(LEFT, 0, RIGHT, has), &moving(Kind::Redistribute, key, moved));
+    assert!(!gives_a(&[30, 5, 20, 10], 5, &[20, 10]), "A's last");
+    assert!(gives_a(&[30, 5, 20, 10], 5, &[10, 20]), "A's last in another order");
+    assert!(gives_a(&[20, 10, 5], 5, &[20, 10]), "A's first");
+    assert!(gives_a(&[30, 5, 20, 10], 4, &[20, 10]), "another key before them");
+    assert!(gives_a(&[20, 10], 5, &[20, 10]), "all of A");
+}
+
+#[test]
+fn the_key_of_a_redistribution_is_the_last_one_of_a_not_the_greatest() {
+    let refuses = |has, moved, key| taker_refuses(Kind::Redistribute, LEFT, has, moved, key);
+    assert!(refuses(&[10], &[30, 20], 30), "the greatest of those moved into A");
+    assert!(refuses(&[10], &[20, 30], 31), "one above them");
+    assert!(!refuses(&[10], &[20, 30], 30));
+    assert!(refuses(&[30, 10], &[], 30), "none moved: A's greatest");
+    assert!(!refuses(&[30, 10], &[], 10), "none moved: A's last");
+    assert!(refuses(&[], &[], 0), "none moved, and none there");
+}
+
+#[test]
+fn a_raise_or_lowering_has_the_entries_in_their_order() {
+    let raise = |level, moved: &[u32]| {
+        let record = Record { level, a: ROOT, ..moving(Kind::Raise, 1, moved) };
+        page_refuses(page(ROOT, level, RIGHT, &[30, 10, 20]), &record)
+    };
+    assert!(!raise(0, &[30, 10, 20]));
+    assert!(raise(0, &[10, 20, 30]), "in another order");
+    assert!(!raise(14, &[30, 10, 20]), "level 14");
+    assert!(raise(15, &[30, 10, 20]), "level 15");
+    let lower = |page, moved: &[u32]| page_refuses(page, &Record { a: ROOT, ..moving(Kind::Lower, 0, moved) });
+    assert!(!lower(page(RIGHT, 0, 0, &[30, 10, 20]), &[30, 10, 20]));
+    assert!(lower(page(RIGHT, 0, 0, &[30, 10, 20]), &[10, 20, 30]), "in another order");
+    let root = |children: &[usize]| {
+        let entries = children.iter().map(|child| Entry::to_child(9, *child)).collect();
+        Page { entries, ..page(ROOT, 1, 0, &[]) }
+    };
+    assert!(!lower(root(&[RIGHT]), &[]));
+    assert!(lower(root(&[LEFT]), &[]), "another child");
+    assert!(lower(root(&[RIGHT, RIGHT]), &[]), "the child twice");
 }
 
 #[test]
