@@ -1,8 +1,6 @@
 """A crate checked with edits, in a copy of the repository that has this crate alone, over the proved crates that it uses."""
-import functools
-import glob
+import json
 import os
-import re
 import shutil
 import subprocess
 import tempfile
@@ -10,6 +8,7 @@ import tempfile
 from edits import change_text
 from refusal.verdict import Verdict
 
+INTERFACE = b'--@ interface '  # the line of a proved module that lists its names
 ROOT = os.path.dirname(os.path.dirname(os.path.dirname(os.path.abspath(__file__))))
 
 
@@ -46,22 +45,19 @@ def build_name(crate):
         return os.listdir(kept)[0]
 
 
-def needs(crate, copy):
-    """What the proof of each function has to answer, in order, as the prover makes it of the code."""
-    with tempfile.TemporaryDirectory() as made:
-        rt_dev(crate, copy, '--generated', made)
-        top, found = os.path.join(made, f'Rattle.{crate}.proofs', 'proofs'), {}
-        for path in glob.glob(os.path.join(top, '**', 'Tie.antt'), recursive=True):
-            function = os.path.relpath(os.path.dirname(path), top).replace(os.sep, '::')
-            found[function] = re.findall(r'\(answer : (\S+)', open(path, encoding='utf-8').read())
-        return found
+def tie_of(crate, function):
+    """The module in which the prover ties a function's proof to its code."""
+    return f'Rattle.{crate}.proofs.{function.replace("::", ".")}.Tie.oantt'
 
 
-@functools.cache
-def needs_unedited(crate):
-    with tempfile.TemporaryDirectory() as copy:
-        make_copy(crate, copy)
-        return needs(crate, copy)
+def needs(folder, crate, function):
+    """What the proof of a function has to answer, in order, as the prover made it of the code; none where it left no such module."""
+    path = os.path.join(folder, tie_of(crate, function))
+    if not os.path.exists(path):
+        return None
+    line = next(line for line in open(path, 'rb') if line.startswith(INTERFACE))
+    names = sorted(json.loads(line[len(INTERFACE):])['exports'], key=lambda name: name['global'])
+    return [name['spelling'] for name in names if name['spelling'].startswith('Need-')]
 
 
 def check(crate, edits, build):
@@ -73,12 +69,13 @@ def check(crate, edits, build):
             text = open(path, encoding='utf-8').read()
             spots = [spot for edit in edits if edit.file == file for spot in edit.spots]
             open(path, 'w', encoding='utf-8').write(change_text(text, spots))
-        if os.path.isdir(proved_modules(crate)):
-            shutil.copytree(proved_modules(crate), os.path.join(copy, 'target', 'inc', crate, build))
+        before, after = proved_modules(crate), os.path.join(copy, 'target', 'inc', crate, build)
+        ties = [tie_of(crate, place) for edit in edits for place in edit.places]
+        if os.path.isdir(before):
+            shutil.copytree(before, after, ignore=lambda folder, names: ties)
         run = rt_dev(crate, copy)
         found = Verdict(run.returncode, run.stdout + run.stderr)
-        if found.wholes():
-            before, after = needs_unedited(crate), needs(crate, copy)
-            for place in found.wholes():
-                found.settle(place, place in before and before[place] == after.get(place))
+        for place in found.wholes():
+            asked = needs(before, crate, place)
+            found.settle(place, asked is not None and asked == needs(after, crate, place))
         return found

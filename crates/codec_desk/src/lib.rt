@@ -4,7 +4,7 @@ use codec_bytes::set32;
 use def_layout::Desk;
 use def_layout::Row;
 ghost use mathlib.Core.Path.{_≡_};
-ghost use Prim.Native.Nat.{_+_, _*_, _≤_, _<_};
+ghost use Prim.Native.Nat.{_+_, _≤_, _<_};
 ghost use lib.ListN.{length, replicate};
 ghost use Rattle.def_layout.specs.Sizes.{desk-size};
 ghost use Rattle.def_layout.specs.Numbers.{chunks};

@@ -5,7 +5,7 @@ use def_layout::Entry;
 use def_layout::ROOM;
 ghost use mathlib.Core.Path.{_≡_};
 ghost use mathlib.Core.List.{_∷_, _++_};
-ghost use Prim.Native.Nat.{_+_, _-_, _*_, _≤_, _<_, min};
+ghost use Prim.Native.Nat.{_+_, _-_, _≤_, _<_, min};
 ghost use lib.ListN.{length, take, drop};
 ghost use Rattle.def_layout.specs.Sizes.{room};
 ghost use Rattle.def_layout.specs.Entries.{entry-at, place, ten-bits, same-entries};

@@ -3,7 +3,7 @@ use codec_page::map_word;
 use def_layout::Entry;
 use def_layout::ROOM;
 ghost use mathlib.Core.Path.{_≡_};
-ghost use Prim.Native.Nat.{ℕ, _+_, _-_, _/_, _^_, _≤_, _<_};
+ghost use Prim.Native.Nat.{ℕ, _-_, _/_, _^_, _≤_, _<_};
 ghost use lib.Dec.{eqb};
 ghost use lib.ListN.{take, set};
 ghost use lib.Count.{ones, trailingZeros};

@@ -11,7 +11,7 @@ use def_layout::ROOM;
 use def_layout::SLOT_SIZE;
 use def_layout::slot;
 ghost use mathlib.Core.Path.{_≡_};
-ghost use Prim.Native.Nat.{_+_, _*_, _≤_, _<_};
+ghost use Prim.Native.Nat.{_+_, _≤_, _<_};
 ghost use lib.ListN.{length};
 ghost use Rattle.def_layout.specs.Sizes.{slot-size};
 ghost use Rattle.def_layout.specs.Numbers.{chunks};

@@ -178,6 +178,14 @@ each-refusal =
     ∷ done ∷ replicate 8 (refused 11) ++ refused 2 ∷ (0 ∷ 1 ∷ 1 ∷ []) ∷ [])
     []
 
+-- Two cases are open at a cut, with updates in turns: "undoes always the largest log number due, with an 8 right after a batch's last".
+abbrev pub two-open : Session
+two-open =
+    usual
+    (ask begin ∷ ask begin ∷ ask (insert 1 5 6) ∷ ask (insert 2 7 8) ∷ ask (insert 1 9 9) ∷ ask (insert 2 3 3) ∷ ask begin ∷ ask (commit 7) ∷ power-cut ∷ ask restart ∷ [])
+    (answers 1 ∷ answers 2 ∷ replicate 4 done ++ answers 7 ∷ done ∷ (0 ∷ 2 ∷ 4 ∷ []) ∷ [])
+    (slides [] ∷ kinds-from 9 (7 ∷ 7 ∷ 4 ∷ 4 ∷ 4 ∷ 8 ∷ 4 ∷ 8 ∷ []) ∷ [])
+
 -- Three cases are open at a cut, the second with nothing pending: three are ended, two page changes redone.
 abbrev pub three-open : Session
 three-open =
@@ -226,7 +234,7 @@ abbrev pub rows : List Session
 rows =
     a-split ∷ a-raise ∷ a-merge ∷ a-held-key ∷ a-ninth ∷ enough-slots ∷ too-few-slots ∷ too-few-pages ∷ a-cut
     ∷ a-lower ∷ shared-left ∷ shared-right ∷ an-abort ∷ a-redo ∷ unstored-commit ∷ stored-commit ∷ console
-    ∷ next-held ∷ next-held-between ∷ each-refusal ∷ three-open ∷ redo-of-changes ∷ two-inserts 256 100 done ∷ two-inserts 256 99 (refused 17) ∷ two-inserts 23 1024 done
+    ∷ next-held ∷ next-held-between ∷ each-refusal ∷ two-open ∷ three-open ∷ redo-of-changes ∷ two-inserts 256 100 done ∷ two-inserts 256 99 (refused 17) ∷ two-inserts 23 1024 done
     ∷ two-inserts 22 1024 (refused 18) ∷ begin-fits ∷ begin-short ∷ []
 
 abbrev pub table : ℕ → List Session

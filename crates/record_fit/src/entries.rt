@@ -7,7 +7,7 @@ use def_layout::Entry;
 use def_layout::ROOM;
 ghost use mathlib.Core.Path.{_≡_};
 ghost use mathlib.Core.List.{_++_};
-ghost use Prim.Native.Nat.{_+_, _-_, _≤_, min};
+ghost use Prim.Native.Nat.{_-_, _≤_, min};
 ghost use lib.ListN.{take, drop};
 ghost use lib.Dec.{leb};
 ghost use Rattle.def_layout.specs.Sizes.{room};

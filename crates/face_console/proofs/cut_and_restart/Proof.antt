@@ -1,9 +1,9 @@
 -- `cut_and_restart`: what restart finds are zeros and the stable areas.
 use borrow.Author.Needs.{needs}
-use Rattle.console.proofs.cut_and_restart.Statement.{statement}
-use Rattle.console.proofs.cut_and_restart.Tie as tie
+use Rattle.face_console.proofs.cut_and_restart.Statement.{statement}
+use Rattle.face_console.proofs.cut_and_restart.Tie as tie
 use Rattle.def_layout.specs.Desks.{empty-desk}
-use Rattle.console.specs.Obeyed.{restarted}
+use Rattle.face_console.specs.Obeyed.{restarted}
 
 returns : tie.Need-returns
 returns c =

@@ -1,6 +1,6 @@
 -- `hear_bytes`: so far, what is heard of the first bytes.
-use Rattle.console.proofs.hear_bytes.Statement.{statement}
-use Rattle.console.proofs.hear_bytes.Tie as tie
+use Rattle.face_console.proofs.hear_bytes.Statement.{statement}
+use Rattle.face_console.proofs.hear_bytes.Tie as tie
 use borrow.Author.Needs.{needs}
 use mathlib.Core.Path.{_≡_, refl}
 use mathlib.Core.Bool.{true}
@@ -8,8 +8,8 @@ use Prim.Native.Nat.{_-_, _*_, _≤_}
 use native.Mathlib.Omega.{arith}
 use lib.ListN.{length, take}
 use Rattle.area_lengths.specs.Lent.{lent}
-use Rattle.console.specs.Hearing.{hear}
-use Rattle.console.specs.Hears.{stands, Hears, counted, none-heard, more-heard, all-heard}
+use Rattle.face_console.specs.Hearing.{hear}
+use Rattle.face_console.specs.Hears.{stands, Hears, counted, none-heard, more-heard, all-heard}
 
 abbrev Inv-loop : tie.InvT-loop
 Inv-loop wp₀ sp₀ wl₀ sl₀ text out₀ now₀ i₀ i-end wp sp wl sl out now i = ((i ≤ i-end) × (i-end ≡ length text) × (i-end ≤ 18446744073709551615) × (length wp ≡ length wp₀) × (length sp ≡ length sp₀) × (length wl ≡ length wl₀) × (length sl ≡ length sl₀) × (length out ≡ length out₀) × (now .said ≤ 35 * i) × (35 * i-end ≤ length out₀)) × Hears (hear (take i text) (stands (lent wp₀ sp₀ wl₀ sl₀) now₀)) (lent wp sp wl sl) now out₀ 0 out

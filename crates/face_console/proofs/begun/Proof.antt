@@ -1,11 +1,11 @@
 -- `begun`: what format leaves, and no line yet.
 use borrow.Author.Needs.{needs}
-use Rattle.console.proofs.begun.Statement.{statement}
-use Rattle.console.proofs.begun.Tie as tie
+use Rattle.face_console.proofs.begun.Statement.{statement}
+use Rattle.face_console.proofs.begun.Tie as tie
 use mathlib.Core.Path.{refl}
 use mathlib.Core.Bool.{true}
 use Rattle.area_lengths.specs.Lent.{lent}
-use Rattle.console.specs.Hears.{new-heard}
+use Rattle.face_console.specs.Hears.{new-heard}
 
 returns : tie.Need-returns
 returns c =

@@ -18,10 +18,10 @@ use Rattle.face_command.specs.Lines.{start, step}
 use Rattle.face_command.specs.Commands.{command}
 use Rattle.face_text.specs.Texts.{line-text}
 use Rattle.face_text.specs.Puts.{Puts, puts-then}
-use Rattle.console.specs.declared.Heard.{Heard}
-use Rattle.console.specs.Obeyed.{world, Turn, turn, made, obey, Obeyed, replied}
-use Rattle.console.specs.Session.{Out, out, formatted}
-use Rattle.console.specs.Hearing.{Listening, listening, hear-line, hear-byte, hear, hear-end, hear-next, byte-end, byte-on}
+use Rattle.face_console.specs.declared.Heard.{Heard}
+use Rattle.face_console.specs.Obeyed.{world, Turn, turn, made, obey, Obeyed, replied}
+use Rattle.face_console.specs.Session.{Out, out, formatted}
+use Rattle.face_console.specs.Hearing.{Listening, listening, hear-line, hear-byte, hear, hear-end, hear-next, byte-end, byte-on}
 
 -- Where the console stands.
 abbrev pub stands : Lent → Heard → Listening
@@ -91,6 +91,10 @@ nothing-left l h r b e el ed es =
     hears-as (out [] (stands l h)) (hear-end (stands l h)) l r b 0 b (rw (hear-end, eq-true (h .line .place) 0 e))
     (ap (λ (d : Desk). listening (world l d) (r .line)) ed ∙ ap (λ (k : Line). listening (world l (h .desk)) k) el, ap (λ (n : ℕ). take n b) es)
 
-pub line-left : (s : Listening) (l : Lent) (r : Heard) (b : List ℕ) (n : ℕ) (a : List ℕ) → s .line .place ≢ 0 → Hears (hear-line s) l r b n a → Hears (hear-end s) l r b n a
+pub line-left : (l after : Lent) (h last r : Heard) (b a : List ℕ) → last .line .place ≢ 0 → last .line ≡ h .line → last .desk ≡ h .desk → last .said ≡ 0
+    → Hears (hear-line (stands l last)) after r b (last .said) a → Hears (hear-end (stands l h)) after r b 0 a
 unfolding hear-end
-line-left s l r b n a e q = hears-as (hear-line s) (hear-end s) l r b n a (rw (hear-end, neq-false e)) q
+line-left l after h last r b a e el ed es q =
+    let at : stands l last ≡ stands l h = ap (λ (d : Desk). listening (world l d) (last .line)) ed ∙ ap (λ (k : Line). listening (world l (h .desk)) k) el in
+    let o : Hears (hear-end (stands l last)) after r b (last .said) a = hears-as (hear-line (stands l last)) (hear-end (stands l last)) after r b (last .said) a (rw (hear-end, neq-false e)) q in
+    subst (λ (n : ℕ). Hears (hear-end (stands l h)) after r b n a) es (subst (λ (s : Listening). Hears (hear-end s) after r b (last .said) a) at o)

@@ -1,12 +1,12 @@
 -- `hear_byte`: a line's end, or one byte more.
 use borrow.Author.Needs.{needs}
-use Rattle.console.proofs.hear_byte.Statement.{statement}
-use Rattle.console.proofs.hear_byte.Tie as tie
+use Rattle.face_console.proofs.hear_byte.Statement.{statement}
+use Rattle.face_console.proofs.hear_byte.Tie as tie
 use mathlib.Core.Path.{refl}
 use mathlib.Core.Bool.{true}
 use native.Mathlib.Omega.{arith}
 use Rattle.area_lengths.specs.Lent.{lent}
-use Rattle.console.specs.Hears.{stands, byte-ended, byte-heard}
+use Rattle.face_console.specs.Hears.{stands, byte-ended, byte-heard}
 
 returns : tie.Need-returns
 returns c =

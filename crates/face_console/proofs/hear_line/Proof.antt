@@ -1,11 +1,11 @@
 -- `hear_line`: the command obeyed, its answer put.
 use borrow.Author.Needs.{needs}
-use Rattle.console.proofs.hear_line.Statement.{statement}
-use Rattle.console.proofs.hear_line.Tie as tie
+use Rattle.face_console.proofs.hear_line.Statement.{statement}
+use Rattle.face_console.proofs.hear_line.Tie as tie
 use mathlib.Core.Path.{refl}
 use mathlib.Core.Bool.{true}
 use Rattle.area_lengths.specs.Lent.{lent}
-use Rattle.console.specs.Hears.{line-heard}
+use Rattle.face_console.specs.Hears.{line-heard}
 
 returns : tie.Need-returns
 returns c =

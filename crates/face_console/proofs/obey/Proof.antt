@@ -1,9 +1,9 @@
 -- `obey`: each command's own call.
 use borrow.Author.Needs.{needs}
-use Rattle.console.proofs.obey.Statement.{statement}
-use Rattle.console.proofs.obey.Tie as tie
+use Rattle.face_console.proofs.obey.Statement.{statement}
+use Rattle.face_console.proofs.obey.Tie as tie
 use Rattle.area_lengths.specs.Lent.{lent}
-use Rattle.console.specs.Obeyed.{obeyed-as, replied}
+use Rattle.face_console.specs.Obeyed.{obeyed-as, replied}
 use mathlib.Core.Path.{refl}
 
 returns-9 : tie.Need-returns-9

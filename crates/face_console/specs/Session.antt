@@ -9,7 +9,7 @@ use Rattle.area_lengths.specs.Lent.{lent}
 use Rattle.face_command.specs.Commands.{command-text}
 use Rattle.face_text.specs.Input.{lines}
 use Rattle.face_text.specs.Texts.{line-text}
-use Rattle.console.specs.Obeyed.{World, world, made, obey}
+use Rattle.face_console.specs.Obeyed.{World, world, made, obey}
 
 -- What is printed, and what is left after it.
 pub record Out (S : Type 0) : Type 0 where

@@ -13,8 +13,8 @@ use Rattle.face_command.specs.Lines.{start, step, read-on, letter-step, space-s
 use Rattle.face_command.specs.Commands.{command, command-text}
 use Rattle.face_text.specs.Input.{last-line, lines-from}
 use Rattle.face_text.specs.Texts.{line-text}
-use Rattle.console.specs.Obeyed.{World, obey}
-use Rattle.console.specs.Session.{Out, out, and-then, answered, session}
+use Rattle.face_console.specs.Obeyed.{World, obey}
+use Rattle.face_console.specs.Session.{Out, out, and-then, answered, session}
 
 -- Between two bytes: the world, and what has been read of a line.
 pub record Listening : Type 0 where
