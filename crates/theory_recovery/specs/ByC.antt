@@ -13,10 +13,8 @@ use Rattle.def_layout.specs.Numbers.{put32}
 use Rattle.def_layout.specs.Desks.{desk-bytes, read-desk}
 use Rattle.def_layout.specs.Sizes.{desk-size}
 use Rattle.def_model.specs.declared.Refusal.{Refusal}
-use Rattle.def_model.specs.declared.Refusal.the-variants.{Lengths, PageNumber, Layout, Log, Redo, Rules, Unsound, NoBatch, EightOpen, Held, Present, Absent, SlotsShort, PagesShort, AbortStopped}
 use Rattle.def_model.specs.declared.Answer.{Answer}
-use Rattle.def_model.specs.declared.Answer.the-variants.{Done, Number, Pair, Refused}
-use Rattle.def_model.specs.Answers.{refusal-number, answer-numbers, passed, first-broken}
+use Rattle.def_model.specs.Answers.{answer-numbers, passed, first-broken}
 use Rattle.def_model.specs.Areas.{Areas}
 use Rattle.def_model.specs.Calls.{begin-by, begin-batch, begin-checks, kept-run}
 use Rattle.def_model.specs.OnBytes.{Call, format, begin, restart, fetch, next, insert, delete, commit, abort, write-out, Lent, lengths-ok, read-areas, outcome, call-by, call, lent-after}
@@ -29,37 +27,12 @@ use Rattle.law_bytes.specs.Words.{Bytes, be32-put}
 use Rattle.law_bytes.specs.DeskBytes.{Fits, desk-bytes-length, read-desk-back}
 use Rattle.law_areas.specs.Lengths.{lengths-said}
 use Rattle.law_areas.specs.Logs.{read-log-length}
+use Rattle.theory_refusals.specs.Numbers.{zero-if-passed}
 use Rattle.theory_room.specs.Restarting.{length-records-of}
 use Rattle.theory_recovery.specs.DeskNumbers.{read-fits}
 use Rattle.theory_recovery.specs.DesksFit.{call-desk-fits, desk-read-back}
 
 -- ---- the answer: returned, and read from its bytes
-
-refusal-not-0 : (r : Refusal) → eqb (refusal-number r) 0 ≡ false
-unfolding refusal-number
-refusal-not-0 Lengths = refl
-refusal-not-0 PageNumber = refl
-refusal-not-0 Layout = refl
-refusal-not-0 Log = refl
-refusal-not-0 Redo = refl
-refusal-not-0 Rules = refl
-refusal-not-0 Unsound = refl
-refusal-not-0 NoBatch = refl
-refusal-not-0 EightOpen = refl
-refusal-not-0 Held = refl
-refusal-not-0 Present = refl
-refusal-not-0 Absent = refl
-refusal-not-0 SlotsShort = refl
-refusal-not-0 PagesShort = refl
-refusal-not-0 AbortStopped = refl
-
--- 0 is returned by a call that passed, and by no other.
-pub returned-0 : (a : Answer) → eqb (answer-numbers a .reason) 0 ≡ passed a
-unfolding answer-numbers passed
-returned-0 Done = refl
-returned-0 (Number n) = refl
-returned-0 (Pair n m) = refl
-returned-0 (Refused r) = refusal-not-0 r
 
 -- The number that begin answers has 32 bits.
 begin-by-fits : (o : Option Refusal) (a : Areas) (d : Desk) → suc (length (a .work .log)) < 2 ^ 32 → answer-numbers (begin-by o a d .answer) .first < 2 ^ 32
@@ -119,7 +92,7 @@ module _ (c : Call) (values : List ℕ) (w : CWorld) (right : sizes-ok (w .desk)
 
   pub passes-alike : returns-0 c values w ≡ passes c (as-world w)
   unfolding answered
-  passes-alike = ap (λ r. eqb (r .reason) 0) returns-answer ∙ returned-0 (result c (as-world w) .answer)
+  passes-alike = ap (λ r. eqb (r .reason) 0) returns-answer ∙ zero-if-passed (result c (as-world w) .answer)
 
   -- The desk that is returned, read.
   pub desk-returned : Desk
@@ -129,7 +102,7 @@ module _ (c : Call) (values : List ℕ) (w : CWorld) (right : sizes-ok (w .desk)
   unfolding c-happen return-to end-call answered areas-left desk-returned
   ended-alike =
       let r = result c (as-world w) in
-      let p = returned-0 (r .answer) in
+      let p = zero-if-passed (r .answer) in
       ap (λ q. as-world (return-to w c q (q .desk))) returns-answer
       ∙ ap (λ b. record { lent = lent-after (length (r .stores)) r (w .lent); desk = read-desk (desk-bytes (r .desk)); book = book-after b c (read-values (value-bytes (r .answer))) (w .book); since-cut = w .since-cut && not b }) p
       ∙ ap (λ b. record { lent = lent-after (length (r .stores)) r (w .lent); desk = read-desk (desk-bytes (r .desk)); book = b; since-cut = w .since-cut && not (passed (r .answer)) }) (book-alike (passed (r .answer)) c (w .lent) (read-desk (w .desk)) (w .book))

@@ -25,7 +25,8 @@ use Rattle.theory_recovery.specs.Passed.{Next}
 use Rattle.theory_recovery.specs.Fixing.{any-first}
 use Rattle.theory_recovery.specs.Steps.{take-none, no-cut, still, ended-reports, cut-keeps, grown-next}
 use Rattle.theory_recovery.specs.Theorem.{formatted-inv, recovers, logged}
-use Rattle.theory_recovery.specs.ByC.{returned-0, with-desk, passes-alike, desk-returned, ended-alike, cut-alike}
+use Rattle.theory_refusals.specs.Numbers.{zero-if-passed}
+use Rattle.theory_recovery.specs.ByC.{with-desk, passes-alike, desk-returned, ended-alike, cut-alike}
 
 -- ---- the invariant does not look at the desk
 
@@ -146,7 +147,7 @@ module _ (l : Lent) (desk values : List ℕ) (done : c-call format l desk values
     where
       go : Case (lengths-ok l) → lengths-ok l ≡ true
       go (yes! e) = e
-      go (no! e) = clash (sym was-0 ∙ ap (λ r. eqb (r .reason) 0) answered-so ∙ returned-0 (call format l (read-desk desk) .answer) ∙ ap (λ b. passed (call-by b format l (read-desk desk) .answer)) e)
+      go (no! e) = clash (sym was-0 ∙ ap (λ r. eqb (r .reason) 0) answered-so ∙ zero-if-passed (call format l (read-desk desk) .answer) ∙ ap (λ b. passed (call-by b format l (read-desk desk) .answer)) e)
 
   c-formatted-inv : Inv (as-world (c-formatted l desk values))
   unfolding c-formatted formatted answered areas-left
