@@ -1,4 +1,5 @@
 // Restart's redo of a whole log: each record at its pages, judged page by page, with the count of the page changes that it applied.
+use codec_bytes::copy_part;
 use codec_bytes::get32;
 use codec_slot::Header;
 use codec_slot::read_at;
@@ -21,7 +22,7 @@ ghost use mathlib.Core.Bool.{true, false};
 ghost use mathlib.Core.List.{List};
 ghost use Prim.Native.Nat.{_+_, _*_, _≤_, _<_};
 ghost use lib.ListN.{length};
-ghost use Rattle.def_layout.specs.Sizes.{room};
+ghost use Rattle.def_layout.specs.Sizes.{room, slot-size};
 ghost use Rattle.def_layout.specs.Pages as layout;
 ghost use Rattle.def_layout.specs.Records.{Rec};
 ghost use Rattle.law_bytes.specs.AreaSizes.{HasPages, HasSlots, HasAreas};
@@ -29,6 +30,7 @@ ghost use Rattle.record_apply.specs.Pages.{rec};
 ghost use Rattle.record_pages.specs.Pages.{Pages};
 ghost use Rattle.record_pages.specs.Records.{Keeps};
 ghost use Rattle.record_redo.specs.Logs.{Logged, Slot};
+ghost use Rattle.record_redo.specs.Copies.{Copied};
 ghost use Rattle.record_redo.specs.Slots.{Tells};
 ghost use Rattle.record_redo.specs.AtOnce.{Done};
 ghost use Rattle.record_redo.specs.Outcomes.{Outcome, Answers, pair, part, followed, one-record, whole};
@@ -251,10 +253,35 @@ fn redo_slot(pages: &mut [u8], n: usize, log: &[u8], m: usize, i: usize) -> Redo
     redo_places(pages, n, r, (i + 1) as u32)
 }
 
-// The first `logged` records of a log, each at its pages, up to the first that does not fit.
-pub fn redo_log(pages: &mut [u8], log: &[u8], n: usize, m: usize, logged: u32) -> Redone
-    requires { ⌜ HasAreas n m (now pages) (now log) × (logged ≤ m) ⌝ }
-    ensures { λ d. ⌜ (d .count ≤ 4 * logged) × ((xs : List layout.Page) (l : List Rec) → Pages n (now (pages .entry)) xs → Logged m (now (log .entry)) l → length l ≡ logged → Answers n (now (pages .exit)) d (whole 1 l xs)) ⌝ }
+// Slot i of a log of m slots goes to the same place of another.
+fn copy_slot(to: &mut [u8], log: &[u8], m: usize, i: usize)
+    requires { ⌜ HasSlots m (now log) × HasSlots m (now to) × (i < m) ⌝ }
+    ensures { λ _. ⌜ (Copied (slot-size * i) (now (log .entry)) (now (to .entry)) → Copied (slot-size * (i + 1)) (now (log .entry)) (now (to .exit))) ⌝ }
+{
+    copy_part(to, SLOT_SIZE * i, log, SLOT_SIZE * i, SLOT_SIZE);
+}
+
+// The slots from i on go there.
+fn copy_from(to: &mut [u8], log: &[u8], m: usize, i: usize)
+    requires { ⌜ HasSlots m (now log) × HasSlots m (now to) × (i ≤ m) ⌝ }
+    ensures { λ _. ⌜ (Copied (slot-size * i) (now (log .entry)) (now (to .entry)) → now (to .exit) ≡ now (log .entry)) ⌝ }
+{
+    copy_part(to, SLOT_SIZE * i, log, SLOT_SIZE * i, SLOT_SIZE * (m - i));
+}
+
+// The first `logged` records of a log, each at its pages, up to the first that does not fit; and the log is copied to another area, a slot as soon as
+// it is redone: its bytes are at hand then, and the copy's stores go on while the next record is looked at.
+pub fn redo_log(
+    pages: &mut [u8],
+    to: &mut [u8],
+    log: &[u8],
+    n: usize,
+    m: usize,
+    logged: u32,
+) -> Redone
+    requires { ⌜ HasAreas n m (now pages) (now log) × HasSlots m (now to) × (logged ≤ m) ⌝ }
+    ensures { λ d.
+        ⌜ (d .count ≤ 4 * logged) × ((xs : List layout.Page) (l : List Rec) → Pages n (now (pages .entry)) xs → Logged m (now (log .entry)) l → length l ≡ logged → Answers n (now (pages .exit)) d (whole 1 l xs)) × (d .ok ≡ true → now (to .exit) ≡ now (log .entry)) ⌝ }
 {
     let mut count: u32 = 0;
     let mut i: u32 = 0;
@@ -263,8 +290,10 @@ pub fn redo_log(pages: &mut [u8], log: &[u8], n: usize, m: usize, logged: u32) -
         if !d.ok {
             return d;
         }
+        copy_slot(to, log, m, i as usize);
         count = count + d.count;
         i = i + 1;
     }
+    copy_from(to, log, m, i as usize);
     Redone { ok: true, count }
 }
