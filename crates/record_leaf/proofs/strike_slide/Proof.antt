@@ -29,13 +29,13 @@ returns-6 : tie.Need-returns-6
 returns-6 c =
     let a = c .before .before .before .before .before .before .before .before .before .before .before .before .before .before .before .before .before .before .before .before .before .before .args in
     let w = c .before .before .before .before .before .before .before .before .before .before .before .before .before .before .before .before .before .before .before .get32 in
-    let p = c .before .before .before .before .before .before .before .before .before .before .before .before .before .before .before .place-of in
-    let z : 20 + 8 * p .result ≡ 16 + 8 * p .result + 4 = omega arith in (
+    let s = c .before .before .before .before .before .before .before .before .before .before .before .before .before .before .before .seek in
+    let z : 20 + 8 * s .result .place ≡ 16 + 8 * s .result .place + 4 = omega arith in (
       (λ e. clash e),
       λ x r eb f ek ev q.
-          struck (a .own) (a .k) (a .v) (w .result) _ (p .result) (a .b .now) _ _ (w .ensures) (search needs) refl (p .ensures .0) (search needs)
-          (key-shown (a .b .now) (p .result) (search needs) ∙ sym (c .before .before .before .before .before .before .before .before .before .before .before .before .get322 .ensures) ∙ search needs)
-          (val-shown (a .b .now) (p .result) (search needs) ∙ ap (be32 (a .b .now)) (sym z) ∙ sym (c .before .before .before .before .before .before .before .before .before .get323 .ensures) ∙ search needs) (search needs)
+          struck (a .own) (a .k) (a .v) (w .result) _ (s .result .place) (a .b .now) _ _ (w .ensures) (search needs) refl (s .ensures .0) (search needs)
+          (key-shown (a .b .now) (s .result .place) (search needs) ∙ sym (c .before .before .before .before .before .before .before .before .before .before .before .before .get322 .ensures) ∙ search needs)
+          (val-shown (a .b .now) (s .result .place) (search needs) ∙ ap (be32 (a .b .now)) (sym z) ∙ sym (c .before .before .before .before .before .before .before .before .before .get323 .ensures) ∙ search needs) (search needs)
           (c .before .before .before .before .before .before .take-out .ensures) (c .before .before .stamp .ensures) x r eb f ek ev,
     )
 
