@@ -18,7 +18,8 @@ use log_chain::step;
 use record_check::pages_ok;
 use record_check::row_ok;
 ghost use mathlib.Core.Path.{_≡_};
-ghost use mathlib.Core.Bool.{true, false};
+ghost use mathlib.Core.Bool.{Bool, true, false};
+ghost use mathlib.Core.List.{List};
 ghost use Prim.Native.Nat.{ℕ, suc, _*_, _≤_, _<_};
 ghost use lib.ListN.{length, drop};
 ghost use Rattle.def_layout.specs.Sizes.{slot-size, most-slots};
@@ -29,6 +30,8 @@ ghost use Rattle.law_bytes.specs.AreaSizes.{HasSlots};
 ghost use Rattle.law_bytes.specs.Words.{part};
 ghost use Rattle.law_bytes.specs.LogAreas.{slots-of};
 ghost use Rattle.law_bytes.specs.DeskRows.{LowRows};
+ghost use Rattle.def_layout.specs.declared.Row as layout;
+ghost use Rattle.log_chain.specs.Shown.{right-with};
 ghost use Rattle.log_judge.specs.Updates.{told-by, Plain, Update, TellsUpdate, TellsBatch};
 ghost use Rattle.log_judge.specs.Turns.{in-order, Turns};
 ghost use Rattle.log_judge.specs.Judging.{Judgement};
@@ -38,6 +41,9 @@ ghost use Rattle.log_judge.specs.Accepted.{total};
 const BEGIN: u32 = slot::KIND_UNIT;
 
 const COMMIT: u32 = 6 * slot::KIND_UNIT;
+
+// The least first word of a change of the tree.
+const FIRST_CHANGE: u32 = 9 * slot::KIND_UNIT;
 
 // What a log says: whether it keeps 01's rules, the rows of its open batches, which of these have their abort mark, and how many records it has.
 // Where it is not ok, the rest says nothing.
@@ -206,6 +212,39 @@ fn judge_slot(log: &[u8], m: usize, n: usize, i: usize, rows: [Row; 8], marked: 
     judge_long(log, m, n, i, rows, marked)
 }
 
+// Whether slot i holds a change of the tree, in order in all. No batch has it: the rows and marks stay, and need not be passed on.
+fn is_change(log: &[u8], m: usize, n: usize, i: usize) -> bool
+    requires { ⌜ HasSlots m (now log) × (i < m) ⌝ }
+    ensures { λ r. ⌜ (r ≡ true → (rs : List layout.Row) (ms : List Bool) → Turns n m (now (log .entry)) i rs ms (right-with rs ms)) ⌝ }
+{
+    if get32(log, SLOT_SIZE * i) < FIRST_CHANGE {
+        return false;
+    }
+    let s = read_at(log, SLOT_SIZE * i);
+    let header = s.header;
+    let Header::Full {
+        kind,
+        count: _,
+        level: _,
+        own,
+        batch: _,
+        previous: _,
+        a: _,
+        b: _,
+        c: _,
+        key: _,
+        second: _,
+        right: _,
+    } = header
+    else {
+        return false;
+    };
+    if kind_number(kind) < 9 {
+        return false;
+    }
+    in_order(s, own, i, n)
+}
+
 // Whether 144 bytes hold insert or delete number `own` on a page below n: eight words, and zeros after them.
 fn is_update(b: &[u8], own: u32, n: usize) -> bool
     requires { ⌜ length (now b) ≡ slot-size ⌝ }
@@ -249,6 +288,25 @@ fn update_at(log: &[u8], m: usize, n: usize, i: usize) -> Told
     told_at(b)
 }
 
+// Whether an update goes on the batch of the first row, most often the only one that is open: its other rows are not asked then.
+fn goes_on_first(row: Row, marked: bool, t: Told) -> bool
+    ensures { λ r. ⌜ (r ≡ true → (t .batch ≡ 0 → ⊥) × (row .batch ≡ t .batch) × (marked ≡ false) × (row .last ≡ t .previous)) ⌝ }
+{
+    if t.batch == 0 {
+        return false;
+    }
+    if row.batch != t.batch {
+        return false;
+    }
+    if marked {
+        return false;
+    }
+    if row.last != t.previous {
+        return false;
+    }
+    true
+}
+
 fn empty_slot(log: &[u8], m: usize, i: usize) -> bool
     requires { ⌜ HasSlots m (now log) × (i < m) ⌝ }
     ensures { λ r. ⌜ r ≡ is-empty (read-slot (part (now (log .entry)) (slot-size * i) slot-size)) ⌝ }
@@ -271,7 +329,7 @@ fn finished(log: &[u8], m: usize, i: usize, rows: [Row; 8], marked: [bool; 8]) -
 }
 
 // Refusal 4: the log of m slots of a register of n pages, slot by slot; and what it says of its open batches.
-// Most slots hold updates, which change one row: they are judged here, with no copy of the rows.
+// Most slots hold updates, which change one row, or changes of the tree, which change none: they are judged here, with no copy of the rows.
 pub fn judge_log(log: &[u8], m: usize, n: usize) -> Said
     requires { ⌜ HasSlots m (now log) ⌝ }
     ensures { λ r. ⌜ Judgement n (slots-of m (now (log .entry))) r ⌝ }
@@ -282,6 +340,11 @@ pub fn judge_log(log: &[u8], m: usize, n: usize) -> Said
     while i < m {
         let t = update_at(log, m, n, i);
         if t.kind != 0 {
+            if goes_on_first(rows[0], marked[0], t) {
+                rows[0] = longer(rows[0], t.own);
+                i += 1;
+                continue;
+            }
             let p = going_on(rows, marked, t);
             if p == 8 {
                 return broken();
@@ -292,6 +355,10 @@ pub fn judge_log(log: &[u8], m: usize, n: usize) -> Said
         }
         if empty_slot(log, m, i) {
             return finished(log, m, i, rows, marked);
+        }
+        if is_change(log, m, n, i) {
+            i += 1;
+            continue;
         }
         let j = judge_slot(log, m, n, i, rows, marked);
         if !j.ok {
