@@ -138,7 +138,7 @@ module _ (n m : ℕ) (b : List ℕ) (i : ℕ) (rs : List Row) (ms : List Bool) (
   update-goes z y v = steps (right-with (set rs p y) ms) (updates rs ms t p g z (u .least) (u .most) y v)
 
 -- The batch of the first row goes on there.
-first-place : (rs : List Row) (n : ℕ) → row-at rs 0 .batch ≡ n → 0 ≡ place-of n rs
+pub first-place : (rs : List Row) (n : ℕ) → row-at rs 0 .batch ≡ n → 0 ≡ place-of n rs
 unfolding place-of
 first-place [] n e = refl
 first-place (r ∷ rs) n e = rw (eq-true (r .batch) n e)

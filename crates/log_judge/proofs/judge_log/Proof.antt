@@ -6,9 +6,9 @@ use native.Mathlib.Omega.{arith}
 use Prim.Native.Nat.{_≤_, _-_}
 use mathlib.Core.Path.{sym, refl, _∙_}
 use borrow.Author.Tests.{not-true, not-false}
-use Rattle.log_chain.specs.Shown.{right-with, shows-none}
+use Rattle.log_chain.specs.Shown.{shows-none}
 use Rattle.log_judge.specs.Updates.{plain-full}
-use Rattle.log_judge.specs.Turns.{update-halts, update-goes, first-goes}
+use Rattle.log_judge.specs.Turns.{update-halts, update-goes}
 use Rattle.log_judge.specs.Judging.{Going, going-start, going-low, going-on, going-off, ends-empty, ends-all}
 
 abbrev Inv-loop : tie.InvT-loop
@@ -22,33 +22,29 @@ loop-holds c =
     let a = c .before .before .args in
     (search needs, going-start (a .n) (a .m) (a .log .now) _ _ (shows-none _ (c .no-rows .ensures)))
 
-longer-requires : tie.Need-longer-requires Inv-loop μ-loop
-longer-requires c κs =
-    let a = c .before .before .before .before .before .before .before .before .before .before .before .args in
-    let l = c .before .before .before .before .before .before .before .before .loop in
-    going-low (a .n) (a .m) (a .log .now) (l .i) (l .rows) (l .marked) (c .before .before .before .before .before .before .before .before .before .before .before .pre .1) (l .inv .1) 0
+alone-requires : tie.Need-alone-requires Inv-loop μ-loop
+alone-requires c κs =
+    let a = c .before .before .before .before .before .args in
+    let l = c .before .before .loop in
+    let q = c .before .before .before .before .before .pre in
+    (q, c .before .loop-test .taken, going-low (a .n) (a .m) (a .log .now) (l .i) (l .rows) (l .marked) (q .1) (l .inv .1) 0)
 
 loop-again : tie.Need-loop-again Inv-loop μ-loop
 loop-again c =
-    let a = c .before .before .before .before .before .before .before .before .before .before .before .before .args in
-    let l = c .before .before .before .before .before .before .before .before .before .loop in
-    let u = c .before .before .before .before .before .before .before .update-at .ensures (c .before .before .before .before .before .if1 .taken) in
-    let f = c .before .before .before .goes-on-first .ensures (c .before .before .if2 .taken) in (
-      search needs,
-      going-on (a .n) (a .m) (a .log .now) (l .i) (l .rows) (l .marked) (l .inv .1) (c .before .before .before .before .before .before .before .before .loop-test .taken) _
-          (update-goes (a .n) (a .m) (a .log .now) (l .i) (l .rows) (l .marked) _ u 0 (first-goes (l .rows) (l .marked) _ (f .0) (f .1) (f .2) (f .3)) (λ q. absurd (omega arith)) _ (c .longer .ensures)) refl,
-    )
+    let a = c .before .before .before .before .before .before .before .before .args in
+    let l = c .before .before .before .before .before .loop in
+    (search needs, going-on (a .n) (a .m) (a .log .now) (l .i) (l .rows) (l .marked) (l .inv .1) (c .before .before .before .before .loop-test .taken) _ (c .before .before .alone .ensures (c .before .if1 .taken) (l .rows) (l .marked) refl refl refl) refl)
 
 returns : tie.Need-returns Inv-loop μ-loop
 returns c =
     let a = c .before .before .before .before .before .before .before .before .before .before .before .before .before .args in
     let l = c .before .before .before .before .before .before .before .before .before .before .loop in
-    let u = c .before .before .before .before .before .before .before .before .update-at .ensures (c .before .before .before .before .before .before .if1 .taken) in
+    let u = c .before .before .before .before .before .update-at .ensures (c .before .before .before .if2 .taken) in
     going-off (a .n) (a .m) (a .log .now) (l .i) (l .rows) (l .marked) (l .inv .1) (c .before .before .before .before .before .before .before .before .before .loop-test .taken) _ (plain-full _ _ _ (u .holds))
     (update-halts (a .n) (a .m) (a .log .now) (l .i) (l .rows) (l .marked) _ u _ (c .before .before .going-on .ensures .1) (c .before .if3 .taken)) refl _ (c .broken .ensures)
 
-longer-requires-2 : tie.Need-longer-requires-2 Inv-loop μ-loop
-longer-requires-2 c κs =
+longer-requires : tie.Need-longer-requires Inv-loop μ-loop
+longer-requires c κs =
     let a = c .before .before .before .before .before .before .before .before .before .before .before .before .before .args in
     let l = c .before .before .before .before .before .before .before .before .before .before .loop in
     going-low (a .n) (a .m) (a .log .now) (l .i) (l .rows) (l .marked) (c .before .before .before .before .before .before .before .before .before .before .before .before .before .pre .1) (l .inv .1) (c .before .before .going-on .result)
@@ -57,46 +53,40 @@ loop-again-2 : tie.Need-loop-again-2 Inv-loop μ-loop
 loop-again-2 c =
     let a = c .before .before .before .before .before .before .before .before .before .before .before .before .before .before .args in
     let l = c .before .before .before .before .before .before .before .before .before .before .before .loop in
-    let u = c .before .before .before .before .before .before .before .before .before .update-at .ensures (c .before .before .before .before .before .before .before .if1 .taken) in (
+    let u = c .before .before .before .before .before .before .update-at .ensures (c .before .before .before .before .if2 .taken) in (
       search needs,
       going-on (a .n) (a .m) (a .log .now) (l .i) (l .rows) (l .marked) (l .inv .1) (c .before .before .before .before .before .before .before .before .before .before .loop-test .taken) _
-          (update-goes (a .n) (a .m) (a .log .now) (l .i) (l .rows) (l .marked) _ u _ (c .before .before .before .going-on .ensures .1) (c .before .before .if3 .left) _ (c .longer2 .ensures)) refl,
+          (update-goes (a .n) (a .m) (a .log .now) (l .i) (l .rows) (l .marked) _ u _ (c .before .before .before .going-on .ensures .1) (c .before .before .if3 .left) _ (c .longer .ensures)) refl,
     )
 
 returns-2 : tie.Need-returns-2 Inv-loop μ-loop
 returns-2 c =
-    let a = c .before .before .before .before .before .before .before .before .before .before .args in
-    let l = c .before .before .before .before .before .before .before .loop in
+    let a = c .before .before .before .before .before .before .before .before .before .before .before .before .before .args in
+    let l = c .before .before .before .before .before .before .before .before .before .before .loop in
     let f = c .finished .ensures in
-    ends-empty (a .n) (a .m) (a .log .now) (l .i) (l .rows) (l .marked) (l .inv .1) _ (f .0) (f .1) (f .2) (f .3) (c .before .before .before .before .before .before .loop-test .taken) (sym (c .before .before .empty-slot .ensures) ∙ c .before .if4 .taken)
-
-loop-again-3 : tie.Need-loop-again-3 Inv-loop μ-loop
-loop-again-3 c =
-    let a = c .before .before .before .before .before .before .before .before .before .before .before .args in
-    let l = c .before .before .before .before .before .before .before .before .loop in
-    (search needs, going-on (a .n) (a .m) (a .log .now) (l .i) (l .rows) (l .marked) (l .inv .1) (c .before .before .before .before .before .before .before .loop-test .taken) (right-with (l .rows) (l .marked)) (c .before .is-change .ensures (c .if5 .taken) (l .rows) (l .marked)) refl)
+    ends-empty (a .n) (a .m) (a .log .now) (l .i) (l .rows) (l .marked) (l .inv .1) _ (f .0) (f .1) (f .2) (f .3) (c .before .before .before .before .before .before .before .before .before .loop-test .taken) (sym (c .before .before .empty-slot .ensures) ∙ c .before .if4 .taken)
 
 judge-slot-requires : tie.Need-judge-slot-requires Inv-loop μ-loop
 judge-slot-requires c κs =
-    let a = c .before .before .before .before .before .before .before .before .before .before .before .args in
-    let l = c .before .before .before .before .before .before .before .before .loop in
-    let q = c .before .before .before .before .before .before .before .before .before .before .before .pre in
-    (q, c .before .before .before .before .before .before .before .loop-test .taken, going-low (a .n) (a .m) (a .log .now) (l .i) (l .rows) (l .marked) (q .1) (l .inv .1))
+    let a = c .before .before .before .before .before .before .before .before .before .before .before .before .args in
+    let l = c .before .before .before .before .before .before .before .before .before .loop in
+    let q = c .before .before .before .before .before .before .before .before .before .before .before .before .pre in
+    (q, c .before .before .before .before .before .before .before .before .loop-test .taken, going-low (a .n) (a .m) (a .log .now) (l .i) (l .rows) (l .marked) (q .1) (l .inv .1))
 
 returns-3 : tie.Need-returns-3 Inv-loop μ-loop
 returns-3 c =
-    let a = c .before .before .before .before .before .before .before .before .before .before .before .before .before .before .before .args in
-    let l = c .before .before .before .before .before .before .before .before .before .before .before .before .loop in
-    going-off (a .n) (a .m) (a .log .now) (l .i) (l .rows) (l .marked) (l .inv .1) (c .before .before .before .before .before .before .before .before .before .before .before .loop-test .taken) _ (sym (c .before .before .before .before .before .before .before .empty-slot .ensures) ∙ c .before .before .before .before .before .before .if4 .left) (c .before .before .before .judge-slot .ensures) (not-true _ (c .before .if6 .taken)) _ (c .broken2 .ensures)
-
-add-i-4 : tie.Need-add-i-4 Inv-loop μ-loop
-add-i-4 c = omega (arith, c .before .before .before .before .before .before .before .before .before .before .before .before .loop-test .taken, c .before .before .before .before .before .before .before .before .before .before .before .before .before .before .before .before .pre .1)
-
-loop-again-4 : tie.Need-loop-again-4 Inv-loop μ-loop
-loop-again-4 c =
     let a = c .before .before .before .before .before .before .before .before .before .before .before .before .before .before .before .before .args in
     let l = c .before .before .before .before .before .before .before .before .before .before .before .before .before .loop in
-    (search needs, going-on (a .n) (a .m) (a .log .now) (l .i) (l .rows) (l .marked) (l .inv .1) (c .before .before .before .before .before .before .before .before .before .before .before .before .loop-test .taken) _ (c .before .before .before .before .judge-slot .ensures) (not-false _ (c .before .before .if6 .left)))
+    going-off (a .n) (a .m) (a .log .now) (l .i) (l .rows) (l .marked) (l .inv .1) (c .before .before .before .before .before .before .before .before .before .before .before .before .loop-test .taken) _ (sym (c .before .before .before .before .before .empty-slot .ensures) ∙ c .before .before .before .before .if4 .left) (c .before .before .before .judge-slot .ensures) (not-true _ (c .before .if5 .taken)) _ (c .broken2 .ensures)
+
+add-i-3 : tie.Need-add-i-3 Inv-loop μ-loop
+add-i-3 c = omega (arith, c .before .before .before .before .before .before .before .before .before .before .before .before .before .loop-test .taken, c .before .before .before .before .before .before .before .before .before .before .before .before .before .before .before .before .before .pre .1)
+
+loop-again-3 : tie.Need-loop-again-3 Inv-loop μ-loop
+loop-again-3 c =
+    let a = c .before .before .before .before .before .before .before .before .before .before .before .before .before .before .before .before .before .args in
+    let l = c .before .before .before .before .before .before .before .before .before .before .before .before .before .before .loop in
+    (search needs, going-on (a .n) (a .m) (a .log .now) (l .i) (l .rows) (l .marked) (l .inv .1) (c .before .before .before .before .before .before .before .before .before .before .before .before .before .loop-test .taken) _ (c .before .before .before .before .judge-slot .ensures) (not-false _ (c .before .before .if5 .left)))
 
 returns-4 : tie.Need-returns-4 Inv-loop μ-loop
 returns-4 c =
@@ -113,22 +103,21 @@ judge-log-spec =
     μ-loop
     (λ c κs. search needs)
     loop-holds
-    (λ c κs. search needs)
     (λ c. search needs)
     (λ c. search needs)
-    (λ c κs. search needs)
     (λ c. search needs)
-    longer-requires
+    alone-requires
     (λ c. search needs)
     (λ c. search needs)
     (λ c. search needs)
     loop-again
     (λ c κs. search needs)
     (λ c κs. search needs)
+    (λ c κs. search needs)
     returns
     (λ c. search needs)
     (λ c. search needs)
-    longer-requires-2
+    longer-requires
     (λ c. search needs)
     (λ c. search needs)
     (λ c. search needs)
@@ -137,15 +126,11 @@ judge-log-spec =
     (λ c κs. search needs)
     (λ c κs. search needs)
     returns-2
-    (λ c κs. search needs)
-    (λ c. search needs)
-    (λ c. search needs)
-    loop-again-3
     judge-slot-requires
     (λ c κs. search needs)
     returns-3
-    add-i-4
+    add-i-3
     (λ c. search needs)
-    loop-again-4
+    loop-again-3
     (λ c κs. search needs)
     returns-4)
