@@ -77,35 +77,31 @@ fn seek(b: &[u8], n: usize, k: u32) -> Sought
     Sought { place, missing }
 }
 
-// Of n entries those from place i on move up by one, and (k, v) stands there.
-fn put_in(b: &mut [u8], n: usize, i: usize, k: u32, v: u32)
-    requires { ⌜ (length (now b) ≡ page-size) × (n < room) × (i ≤ n) ⌝ }
+// Of n entries those from place i on move up by one, and (k, v) stands there. `old` are the entries as they are.
+fn put_in(b: &mut [u8], old: &[u8], n: usize, i: usize, k: u32, v: u32)
+    requires { ⌜ (length (now b) ≡ page-size) × (length (now old) ≡ 112) × (now old ≡ part (now b) 16 112) × (n < room) × (i ≤ n) ⌝ }
     ensures { λ _. ⌜ now (b .exit) ≡ patch (now (b .entry)) (16 + 8 * i) (put32 k ++ put32 v ++ part (now (b .entry)) (16 + 8 * i) (8 * (n - i))) ⌝ }
 {
-    let mut old = [0u8; ENTRIES_SIZE];
-    copy(&mut old, &b[page::ENTRIES_AT..PAGE_SIZE]);
     set32(b, page::ENTRIES_AT + ENTRY_SIZE * i, k);
     set32(b, page::VALUES_AT + ENTRY_SIZE * i, v);
     copy_part(
         b,
         NEXT_AT + ENTRY_SIZE * i,
-        &old,
+        old,
         ENTRY_SIZE * i,
         ENTRY_SIZE * (n - i),
     );
 }
 
 // Of n entries the one at place i goes, those above it move down, and the last place is zero.
-fn take_out(b: &mut [u8], n: usize, i: usize)
-    requires { ⌜ (length (now b) ≡ page-size) × (n ≤ room) × (i < n) ⌝ }
+fn take_out(b: &mut [u8], old: &[u8], n: usize, i: usize)
+    requires { ⌜ (length (now b) ≡ page-size) × (length (now old) ≡ 112) × (now old ≡ part (now b) 16 112) × (n ≤ room) × (i < n) ⌝ }
     ensures { λ _. ⌜ now (b .exit) ≡ patch (now (b .entry)) (16 + 8 * i) (part (now (b .entry)) (24 + 8 * i) (8 * (n - 1 - i)) ++ put32 0 ++ put32 0) ⌝ }
 {
-    let mut old = [0u8; ENTRIES_SIZE];
-    copy(&mut old, &b[page::ENTRIES_AT..PAGE_SIZE]);
     copy_part(
         b,
         page::ENTRIES_AT + ENTRY_SIZE * i,
-        &old,
+        old,
         ENTRY_SIZE + ENTRY_SIZE * i,
         ENTRY_SIZE * (n - 1 - i),
     );
@@ -122,7 +118,8 @@ fn stamp(b: &mut [u8], front: u32, own: u32)
     set32(b, page::LSN_AT, own);
 }
 
-// Insert (k, v), record number `own`: done where the page is a leaf with room and without the key.
+// Insert (k, v), record number `own`: done where the page is a leaf with room and without the key. The entries are copied before the search: read
+// again by other widths right after, the copy would have to be waited for.
 fn file_slide(b: &mut [u8], own: u32, k: u32, v: u32) -> bool
     requires { ⌜ length (now b) ≡ page-size ⌝ }
     ensures { λ r. ⌜ Filed own k v (now (b .entry)) r (now (b .exit)) ⌝ }
@@ -135,12 +132,14 @@ fn file_slide(b: &mut [u8], own: u32, k: u32, v: u32) -> bool
     if n >= ROOM {
         return false;
     }
+    let mut old = [0u8; ENTRIES_SIZE];
+    copy(&mut old, &b[page::ENTRIES_AT..PAGE_SIZE]);
     let s = seek(b, n, k);
     if !s.missing {
         return false;
     }
     let i = s.place;
-    put_in(b, n, i, k, v);
+    put_in(b, &old, n, i, k, v);
     stamp(b, w + page::COUNT_UNIT, own);
     true
 }
@@ -158,6 +157,8 @@ fn strike_slide(b: &mut [u8], own: u32, k: u32, v: u32) -> bool
     if n > ROOM {
         return false;
     }
+    let mut old = [0u8; ENTRIES_SIZE];
+    copy(&mut old, &b[page::ENTRIES_AT..PAGE_SIZE]);
     let s = seek(b, n, k);
     let i = s.place;
     if i >= n {
@@ -169,7 +170,7 @@ fn strike_slide(b: &mut [u8], own: u32, k: u32, v: u32) -> bool
     if get32(b, page::VALUES_AT + ENTRY_SIZE * i) != v {
         return false;
     }
-    take_out(b, n, i);
+    take_out(b, &old, n, i);
     stamp(b, w - page::COUNT_UNIT, own);
     true
 }
