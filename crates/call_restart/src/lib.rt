@@ -23,14 +23,14 @@ use sound_pending::pending_ok;
 use tree_check::tree_ok;
 use tree_write::Run;
 ghost use mathlib.Core.Path.{_≡_};
-ghost use mathlib.Core.Bool.{false};
+ghost use mathlib.Core.Bool.{true, false};
 ghost use Prim.Native.Nat.{_≤_};
 ghost use lib.ListN.{length};
 ghost use Rattle.def_layout.specs.Desks.{empty-desk};
 ghost use Rattle.def_layout.specs.Numbers.{zeros};
 ghost use Rattle.def_model.specs.OnBytes as calls;
 ghost use Rattle.def_model.specs.declared.Answer.the-variants.{Refused};
-ghost use Rattle.law_bytes.specs.AreaSizes.{HasPages, HasAreas};
+ghost use Rattle.law_bytes.specs.AreaSizes.{HasSlots, HasAreas};
 ghost use Rattle.area_lengths.specs.Lent.{at-entry, at-exit};
 ghost use Rattle.call_reply.specs.Replies.{Replies};
 ghost use Rattle.call_restart.specs.Image.{Judges, Image};
@@ -90,13 +90,14 @@ fn judged(sp: &[u8], sl: &[u8], n: usize, m: usize) -> Verdict
     }
 }
 
-// The copy of an image's pages is redone from record 1 of its log, and 5 and 6 are judged.
-fn redone(wp: &mut [u8], sl: &[u8], n: usize, m: usize, v: Verdict) -> Verdict
-    requires { ⌜ HasAreas n m (now wp) (now sl) × (v .logged ≤ m) ⌝ }
-    ensures { λ r. ⌜ (Image n m (now (wp .entry)) (now (sl .entry)) (v .rows) (v .logged) (v .marked) → Readies n m (now (wp .entry)) (now (sl .entry)) (now (wp .exit)) r) ⌝ }
+// The copy of an image's pages is redone from record 1 of its log, which is copied with it, and 5 and 6 are judged.
+fn redone(wp: &mut [u8], wl: &mut [u8], sl: &[u8], n: usize, m: usize, v: Verdict) -> Verdict
+    requires { ⌜ HasAreas n m (now wp) (now sl) × HasSlots m (now wl) × (v .logged ≤ m) ⌝ }
+    ensures { λ r.
+        ⌜ (Image n m (now (wp .entry)) (now (sl .entry)) (v .rows) (v .logged) (v .marked) → Readies n m (now (wp .entry)) (now (sl .entry)) (now (wp .exit)) r) × (r .ok ≡ true → now (wl .exit) ≡ now (sl .entry)) ⌝ }
 {
     let rows = v.rows;
-    let x = redo_log(wp, sl, n, m, v.logged);
+    let x = redo_log(wp, wl, sl, n, m, v.logged);
     if !x.ok {
         return image_bad(Refusal::Redo);
     }
@@ -117,17 +118,17 @@ fn redone(wp: &mut [u8], sl: &[u8], n: usize, m: usize, v: Verdict) -> Verdict
     }
 }
 
-// Refusals 3 to 6 of an image, whose pages become those of the working area and are redone there.
-fn readied(wp: &mut [u8], sp: &[u8], sl: &[u8], n: usize, m: usize) -> Verdict
-    requires { ⌜ HasPages n (now wp) × HasAreas n m (now sp) (now sl) ⌝ }
-    ensures { λ v. ⌜ Readies n m (now (sp .entry)) (now (sl .entry)) (now (wp .exit)) v ⌝ }
+// Refusals 3 to 6 of an image, which becomes that of the working areas, where its pages are redone.
+fn readied(wp: &mut [u8], sp: &[u8], wl: &mut [u8], sl: &[u8], n: usize, m: usize) -> Verdict
+    requires { ⌜ HasAreas n m (now wp) (now wl) × HasAreas n m (now sp) (now sl) ⌝ }
+    ensures { λ v. ⌜ Readies n m (now (sp .entry)) (now (sl .entry)) (now (wp .exit)) v × (v .ok ≡ true → now (wl .exit) ≡ now (sl .entry)) ⌝ }
 {
     let v = judged(sp, sl, n, m);
     if !v.ok {
         return v;
     }
     copy(wp, sp);
-    redone(wp, sl, n, m, v)
+    redone(wp, wl, sl, n, m, v)
 }
 
 // 01: "restart's 3 to 18 zero the working areas".
@@ -153,14 +154,13 @@ fn recovered(
     requires { ⌜ HasAreas n m (now wp) (now wl) × HasAreas n m (now sp) (now sl) ⌝ }
     ensures { λ r. ⌜ Recovers (now (wp .entry)) (now (sp .entry)) (now (wl .entry)) (now (sl .entry)) budget r (now (wp .exit)) (now (wl .exit)) (now (sl .exit)) ⌝ }
 {
-    let v = readied(wp, sp, sl, n, m);
+    let v = readied(wp, sp, wl, sl, n, m);
     if !v.ok {
         let why = v.why;
         return zeroed(wp, wl, why);
     }
     let rows = v.rows;
     let marked = v.marked;
-    copy(wl, sl);
     let t = Run {
         logged: v.logged,
         stop: 0,

@@ -2,8 +2,9 @@
 use Prim.Native.Nat.{ℕ, suc, _*_}
 use mathlib.Core.Path.{_≡_, refl, sym, ap, _∙_, subst}
 use mathlib.Core.Bool.{Bool, true, false, _&&_}
-use mathlib.Core.List.{List}
-use lib.ListN.{length, set}
+use mathlib.Core.List.{List, [], _∷_}
+use native.Mathlib.Omega.{arith}
+use lib.ListN.{length, getD, set}
 use lib.Dec.{eqb}
 use Rattle.def_base.specs.Tests.{clash, Case, yes!, no!, case, and-true, true-eq, eq-true}
 use Rattle.def_layout.specs.declared.Entry.{Entry}
@@ -16,6 +17,7 @@ use Rattle.def_layout.specs.Sizes.{slot-size}
 use Rattle.def_layout.specs.Rows.{row, names-pages}
 use Rattle.def_model.specs.Batches.{Batch, tell, chain-step}
 use Rattle.law_bytes.specs.Words.{part}
+use Rattle.law_bytes.specs.DeskRows.{place-of}
 use Rattle.codec_slot.specs.declared.Header.{Header}
 use Rattle.codec_slot.specs.declared.Header.the-variants.{Full}
 use Rattle.codec_slot.specs.Typed.{rec-of, typed-by}
@@ -26,7 +28,7 @@ use Rattle.log_chain.specs.declared.Told.{Told}
 use Rattle.log_pending.specs.Holding.{Holds}
 use Rattle.log_pending.specs.Reading.{Reads}
 use Rattle.log_chain.specs.Shown.{right-with, Shows}
-use Rattle.log_chain.specs.Steps.{Tells, Stepped, Steps, GoesOn}
+use Rattle.log_chain.specs.Steps.{Tells, Stepped, Steps, GoesOn, place-row, going-on}
 use Rattle.log_chain.specs.Families.{longer-row, updates-ask, halts, updates}
 use Rattle.log_chain.specs.Undos.{StepsIn}
 use Rattle.log_judge.specs.Updates.{told-by, Plain, TellsUpdate}
@@ -134,3 +136,12 @@ module _ (n m : ℕ) (b : List ℕ) (i : ℕ) (rs : List Row) (ms : List Bool) (
 
   pub update-goes : (p ≡ 8 → ⊥) → (y : Row) → y ≡ longer-row (row-at rs p) (t .own) → Turns n m b i rs ms (right-with (set rs p y) ms)
   update-goes z y v = steps (right-with (set rs p y) ms) (updates rs ms t p g z (u .least) (u .most) y v)
+
+-- The batch of the first row goes on there.
+pub first-place : (rs : List Row) (n : ℕ) → row-at rs 0 .batch ≡ n → 0 ≡ place-of n rs
+unfolding place-of
+first-place [] n e = refl
+first-place (r ∷ rs) n e = rw (eq-true (r .batch) n e)
+
+pub first-goes : (rs : List Row) (ms : List Bool) (t : Told) → (t .batch ≡ 0 → ⊥) → row-at rs 0 .batch ≡ t .batch → getD ms 0 false ≡ false → row-at rs 0 .last ≡ t .previous → GoesOn rs ms t 0
+first-goes rs ms t z e k v = going-on rs ms t 0 (place-row rs (t .batch) 0 z (first-place rs (t .batch) e)) (λ q. absurd (omega arith)) k v

@@ -1,6 +1,7 @@
 // The log judged in one pass: each slot's row and number, the batch chain, and what the log says of its open batches.
 use codec_bytes::get32;
 use codec_bytes::is_zero;
+use codec_desk::new_row;
 use codec_desk::no_rows;
 use codec_slot::Header;
 use codec_slot::Slot;
@@ -18,7 +19,8 @@ use log_chain::step;
 use record_check::pages_ok;
 use record_check::row_ok;
 ghost use mathlib.Core.Path.{_≡_};
-ghost use mathlib.Core.Bool.{true, false};
+ghost use mathlib.Core.Bool.{Bool, true, false};
+ghost use mathlib.Core.List.{List};
 ghost use Prim.Native.Nat.{ℕ, suc, _*_, _≤_, _<_};
 ghost use lib.ListN.{length, drop};
 ghost use Rattle.def_layout.specs.Sizes.{slot-size, most-slots};
@@ -29,8 +31,12 @@ ghost use Rattle.law_bytes.specs.AreaSizes.{HasSlots};
 ghost use Rattle.law_bytes.specs.Words.{part};
 ghost use Rattle.law_bytes.specs.LogAreas.{slots-of};
 ghost use Rattle.law_bytes.specs.DeskRows.{LowRows};
+ghost use Rattle.def_layout.specs.declared.Row as layout;
+ghost use Rattle.def_layout.specs.Desks.{no-row};
+ghost use Rattle.log_chain.specs.Shown.{right-with};
 ghost use Rattle.log_judge.specs.Updates.{told-by, Plain, Update, TellsUpdate, TellsBatch};
 ghost use Rattle.log_judge.specs.Turns.{in-order, Turns};
+ghost use Rattle.log_judge.specs.Alone.{Alone};
 ghost use Rattle.log_judge.specs.Judging.{Judgement};
 ghost use Rattle.log_judge.specs.Accepted.{total};
 
@@ -38,6 +44,9 @@ ghost use Rattle.log_judge.specs.Accepted.{total};
 const BEGIN: u32 = slot::KIND_UNIT;
 
 const COMMIT: u32 = 6 * slot::KIND_UNIT;
+
+// The least first word of a change of the tree.
+const FIRST_CHANGE: u32 = 9 * slot::KIND_UNIT;
 
 // What a log says: whether it keeps 01's rules, the rows of its open batches, which of these have their abort mark, and how many records it has.
 // Where it is not ok, the rest says nothing.
@@ -206,6 +215,39 @@ fn judge_slot(log: &[u8], m: usize, n: usize, i: usize, rows: [Row; 8], marked: 
     judge_long(log, m, n, i, rows, marked)
 }
 
+// Whether slot i holds a change of the tree, in order in all. No batch has it: the rows and marks stay, and need not be passed on.
+fn is_change(log: &[u8], m: usize, n: usize, i: usize) -> bool
+    requires { ⌜ HasSlots m (now log) × (i < m) ⌝ }
+    ensures { λ r. ⌜ (r ≡ true → (rs : List layout.Row) (ms : List Bool) → Turns n m (now (log .entry)) i rs ms (right-with rs ms)) ⌝ }
+{
+    if get32(log, SLOT_SIZE * i) < FIRST_CHANGE {
+        return false;
+    }
+    let s = read_at(log, SLOT_SIZE * i);
+    let header = s.header;
+    let Header::Full {
+        kind,
+        count: _,
+        level: _,
+        own,
+        batch: _,
+        previous: _,
+        a: _,
+        b: _,
+        c: _,
+        key: _,
+        second: _,
+        right: _,
+    } = header
+    else {
+        return false;
+    };
+    if kind_number(kind) < 9 {
+        return false;
+    }
+    in_order(s, own, i, n)
+}
+
 // Whether 144 bytes hold insert or delete number `own` on a page below n: eight words, and zeros after them.
 fn is_update(b: &[u8], own: u32, n: usize) -> bool
     requires { ⌜ length (now b) ≡ slot-size ⌝ }
@@ -249,6 +291,111 @@ fn update_at(log: &[u8], m: usize, n: usize, i: usize) -> Told
     told_at(b)
 }
 
+// Whether a record goes on the batch of the first row: it names that batch, which has no abort mark, and its last record.
+fn goes_on_first(row: Row, marked: bool, t: Told) -> bool
+    ensures { λ r. ⌜ (r ≡ true → (t .batch ≡ 0 → ⊥) × (row .batch ≡ t .batch) × (marked ≡ false) × (row .last ≡ t .previous)) ⌝ }
+{
+    if t.batch == 0 {
+        return false;
+    }
+    if row.batch != t.batch {
+        return false;
+    }
+    if marked {
+        return false;
+    }
+    if row.last != t.previous {
+        return false;
+    }
+    true
+}
+
+// What a slot makes of the first row alone, where it leaves the other rows and all marks as they are: whether that is known, and the row after it.
+struct First {
+    done: bool,
+    row: Row,
+}
+
+fn no_row() -> Row
+    ensures { λ r. ⌜ r ≡ no-row ⌝ }
+{
+    Row {
+        batch: 0,
+        last: 0,
+        undo: 0,
+        pending: 0,
+    }
+}
+
+fn not_alone(row: Row) -> First
+    ensures { λ r. ⌜ r .done ≡ false ⌝ }
+{
+    First { done: false, row }
+}
+
+// An update of the first row's batch, at slot i.
+fn first_update(log: &[u8], m: usize, n: usize, i: usize, row: Row, marked: bool) -> First
+    requires { ⌜ HasSlots m (now log) × (i < m) × (row .pending ≤ most-slots) ⌝ }
+    ensures { λ r. ⌜ ((next : ℕ) → Alone n m (now (log .entry)) i row marked next r) ⌝ }
+{
+    let t = update_at(log, m, n, i);
+    if t.kind == 0 {
+        return not_alone(row);
+    }
+    if !goes_on_first(row, marked, t) {
+        return not_alone(row);
+    }
+    First {
+        done: true,
+        row: longer(row, t.own),
+    }
+}
+
+// A begin where no batch is open, or the commit of the only one: `next` is the second row's batch.
+fn first_batch(log: &[u8], m: usize, n: usize, i: usize, row: Row, marked: bool, next: u32) -> First
+    requires { ⌜ HasSlots m (now log) × (i < m) ⌝ }
+    ensures { λ r. ⌜ Alone n m (now (log .entry)) i row marked next r ⌝ }
+{
+    let t = batch_at(log, m, n, i);
+    if t.kind == 1 {
+        if row.batch != 0 {
+            return not_alone(row);
+        }
+        return First {
+            done: true,
+            row: new_row(t.own),
+        };
+    }
+    if t.kind != 6 {
+        return not_alone(row);
+    }
+    if next != 0 {
+        return not_alone(row);
+    }
+    if !goes_on_first(row, marked, t) {
+        return not_alone(row);
+    }
+    First {
+        done: true,
+        row: no_row(),
+    }
+}
+
+// Slot i, where it is a matter of the first row: an update of its batch, a change of the tree, a begin or a commit.
+fn alone(log: &[u8], m: usize, n: usize, i: usize, row: Row, marked: bool, next: u32) -> First
+    requires { ⌜ HasSlots m (now log) × (i < m) × (row .pending ≤ most-slots) ⌝ }
+    ensures { λ r. ⌜ Alone n m (now (log .entry)) i row marked next r ⌝ }
+{
+    let u = first_update(log, m, n, i, row, marked);
+    if u.done {
+        return u;
+    }
+    if is_change(log, m, n, i) {
+        return First { done: true, row };
+    }
+    first_batch(log, m, n, i, row, marked, next)
+}
+
 fn empty_slot(log: &[u8], m: usize, i: usize) -> bool
     requires { ⌜ HasSlots m (now log) × (i < m) ⌝ }
     ensures { λ r. ⌜ r ≡ is-empty (read-slot (part (now (log .entry)) (slot-size * i) slot-size)) ⌝ }
@@ -271,7 +418,8 @@ fn finished(log: &[u8], m: usize, i: usize, rows: [Row; 8], marked: [bool; 8]) -
 }
 
 // Refusal 4: the log of m slots of a register of n pages, slot by slot; and what it says of its open batches.
-// Most slots hold updates, which change one row: they are judged here, with no copy of the rows.
+// Where one batch is open at a time nearly every slot is a matter of the first row, and an update of any other batch changes that one's row: these
+// are judged with no copy of the rows.
 pub fn judge_log(log: &[u8], m: usize, n: usize) -> Said
     requires { ⌜ HasSlots m (now log) ⌝ }
     ensures { λ r. ⌜ Judgement n (slots-of m (now (log .entry))) r ⌝ }
@@ -280,6 +428,13 @@ pub fn judge_log(log: &[u8], m: usize, n: usize) -> Said
     let mut marked = [false; 8];
     let mut i = 0;
     while i < m {
+        let s = alone(log, m, n, i, rows[0], marked[0], rows[1].batch);
+        if s.done {
+            let row = s.row;
+            rows[0] = row;
+            i += 1;
+            continue;
+        }
         let t = update_at(log, m, n, i);
         if t.kind != 0 {
             let p = going_on(rows, marked, t);

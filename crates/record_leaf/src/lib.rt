@@ -10,9 +10,12 @@ use def_layout::PAGE_SIZE;
 use def_layout::ROOM;
 use def_layout::page;
 ghost use mathlib.Core.Path.{_≡_};
+ghost use mathlib.Core.Bool.{not, _&&_};
 ghost use mathlib.Core.List.{_++_};
 ghost use Prim.Native.Nat.{_+_, _-_, _*_, _≤_, _<_};
 ghost use lib.ListN.{length};
+ghost use lib.Dec.{ltb, eqb};
+ghost use Rattle.def_base.specs.Tests.{pick};
 ghost use Rattle.def_layout.specs.Sizes.{page-size, room};
 ghost use Rattle.def_layout.specs.Entries.{place};
 ghost use Rattle.def_layout.specs.Numbers.{put32};
@@ -30,65 +33,75 @@ const LAST_KEY_AT: usize = page::ENTRIES_AT - ENTRY_SIZE;
 
 const LAST_VALUE_AT: usize = page::VALUES_AT - ENTRY_SIZE;
 
-// The place of the first of n entries whose key is not below k, or n.
-fn place_of(b: &[u8], n: usize, k: u32) -> usize
-    requires { ⌜ (length (now b) ≡ page-size) × (n ≤ room) ⌝ }
-    ensures { λ r. ⌜ (r ≡ place k (used n (shown (now (b .entry))))) × (r ≤ n) ⌝ }
+// Where a key belongs among entries, and whether none of them has it, in order or not.
+struct Sought {
+    place: usize,
+    missing: bool,
+}
+
+// With entry i before the others, which has the key x: where k belongs now.
+fn place_with(place: usize, i: usize, x: u32, k: u32) -> usize
+    ensures { λ r. ⌜ r ≡ pick (ltb x k) place i ⌝ }
 {
-    let mut i = 0;
-    while i < n {
-        if get32(b, page::ENTRIES_AT + ENTRY_SIZE * i) >= k {
-            return i;
-        }
-        i += 1;
+    if x < k {
+        return place;
     }
     i
 }
 
-// Whether none of n entries has the key k, in order or not.
-fn is_nowhere(b: &[u8], n: usize, k: u32) -> bool
-    requires { ⌜ (length (now b) ≡ page-size) × (n ≤ room) ⌝ }
-    ensures { λ r. ⌜ r ≡ nowhere k (used n (shown (now (b .entry)))) ⌝ }
+// And whether it is still missing.
+fn missing_with(missing: bool, x: u32, k: u32) -> bool
+    ensures { λ r. ⌜ r ≡ (not (eqb x k) && missing) ⌝ }
 {
-    let mut i = 0;
-    while i < n {
-        if get32(b, page::ENTRIES_AT + ENTRY_SIZE * i) == k {
-            return false;
-        }
-        i += 1;
+    if x == k {
+        return false;
     }
-    true
+    missing
 }
 
-// Of n entries those from place i on move up by one, and (k, v) stands there.
-fn put_in(b: &mut [u8], n: usize, i: usize, k: u32, v: u32)
-    requires { ⌜ (length (now b) ≡ page-size) × (n < room) × (i ≤ n) ⌝ }
+// Among n entries: the place of the first whose key is not below k, or n. All are looked at, from the last on, and no test ends the loop: where a
+// key stands cannot be foreseen, and a jump that was guessed wrong takes longer than the other entries.
+fn seek(b: &[u8], n: usize, k: u32) -> Sought
+    requires { ⌜ (length (now b) ≡ page-size) × (n ≤ room) ⌝ }
+    ensures { λ r. ⌜ (r .place ≡ place k (used n (shown (now (b .entry))))) × (r .missing ≡ nowhere k (used n (shown (now (b .entry))))) × (r .place ≤ n) ⌝ }
+{
+    let mut place = n;
+    let mut missing = true;
+    let mut i = n;
+    while 0 < i {
+        i -= 1;
+        let x = get32(b, page::ENTRIES_AT + ENTRY_SIZE * i);
+        place = place_with(place, i, x, k);
+        missing = missing_with(missing, x, k);
+    }
+    Sought { place, missing }
+}
+
+// Of n entries those from place i on move up by one, and (k, v) stands there. `old` are the entries as they are.
+fn put_in(b: &mut [u8], old: &[u8], n: usize, i: usize, k: u32, v: u32)
+    requires { ⌜ (length (now b) ≡ page-size) × (length (now old) ≡ 112) × (now old ≡ part (now b) 16 112) × (n < room) × (i ≤ n) ⌝ }
     ensures { λ _. ⌜ now (b .exit) ≡ patch (now (b .entry)) (16 + 8 * i) (put32 k ++ put32 v ++ part (now (b .entry)) (16 + 8 * i) (8 * (n - i))) ⌝ }
 {
-    let mut old = [0u8; ENTRIES_SIZE];
-    copy(&mut old, &b[page::ENTRIES_AT..PAGE_SIZE]);
     set32(b, page::ENTRIES_AT + ENTRY_SIZE * i, k);
     set32(b, page::VALUES_AT + ENTRY_SIZE * i, v);
     copy_part(
         b,
         NEXT_AT + ENTRY_SIZE * i,
-        &old,
+        old,
         ENTRY_SIZE * i,
         ENTRY_SIZE * (n - i),
     );
 }
 
 // Of n entries the one at place i goes, those above it move down, and the last place is zero.
-fn take_out(b: &mut [u8], n: usize, i: usize)
-    requires { ⌜ (length (now b) ≡ page-size) × (n ≤ room) × (i < n) ⌝ }
+fn take_out(b: &mut [u8], old: &[u8], n: usize, i: usize)
+    requires { ⌜ (length (now b) ≡ page-size) × (length (now old) ≡ 112) × (now old ≡ part (now b) 16 112) × (n ≤ room) × (i < n) ⌝ }
     ensures { λ _. ⌜ now (b .exit) ≡ patch (now (b .entry)) (16 + 8 * i) (part (now (b .entry)) (24 + 8 * i) (8 * (n - 1 - i)) ++ put32 0 ++ put32 0) ⌝ }
 {
-    let mut old = [0u8; ENTRIES_SIZE];
-    copy(&mut old, &b[page::ENTRIES_AT..PAGE_SIZE]);
     copy_part(
         b,
         page::ENTRIES_AT + ENTRY_SIZE * i,
-        &old,
+        old,
         ENTRY_SIZE + ENTRY_SIZE * i,
         ENTRY_SIZE * (n - 1 - i),
     );
@@ -105,7 +118,8 @@ fn stamp(b: &mut [u8], front: u32, own: u32)
     set32(b, page::LSN_AT, own);
 }
 
-// Insert (k, v), record number `own`: done where the page is a leaf with room and without the key.
+// Insert (k, v), record number `own`: done where the page is a leaf with room and without the key. The entries are copied before the search: read
+// again by other widths right after, the copy would have to be waited for.
 fn file_slide(b: &mut [u8], own: u32, k: u32, v: u32) -> bool
     requires { ⌜ length (now b) ≡ page-size ⌝ }
     ensures { λ r. ⌜ Filed own k v (now (b .entry)) r (now (b .exit)) ⌝ }
@@ -118,11 +132,14 @@ fn file_slide(b: &mut [u8], own: u32, k: u32, v: u32) -> bool
     if n >= ROOM {
         return false;
     }
-    if !is_nowhere(b, n, k) {
+    let mut old = [0u8; ENTRIES_SIZE];
+    copy(&mut old, &b[page::ENTRIES_AT..PAGE_SIZE]);
+    let s = seek(b, n, k);
+    if !s.missing {
         return false;
     }
-    let i = place_of(b, n, k);
-    put_in(b, n, i, k, v);
+    let i = s.place;
+    put_in(b, &old, n, i, k, v);
     stamp(b, w + page::COUNT_UNIT, own);
     true
 }
@@ -140,7 +157,10 @@ fn strike_slide(b: &mut [u8], own: u32, k: u32, v: u32) -> bool
     if n > ROOM {
         return false;
     }
-    let i = place_of(b, n, k);
+    let mut old = [0u8; ENTRIES_SIZE];
+    copy(&mut old, &b[page::ENTRIES_AT..PAGE_SIZE]);
+    let s = seek(b, n, k);
+    let i = s.place;
     if i >= n {
         return false;
     }
@@ -150,7 +170,7 @@ fn strike_slide(b: &mut [u8], own: u32, k: u32, v: u32) -> bool
     if get32(b, page::VALUES_AT + ENTRY_SIZE * i) != v {
         return false;
     }
-    take_out(b, n, i);
+    take_out(b, &old, n, i);
     stamp(b, w - page::COUNT_UNIT, own);
     true
 }

@@ -1,6 +1,6 @@
 -- Records that are done at once: those that change no page, and inserts and deletes at the bytes of their page.
 use mathlib.Core.Path.{_≡_, refl, ap, sym, _∙_, subst}
-use Prim.Native.Nat.{ℕ, zero, suc, _+_, _-_, _*_, _/_, _<_, _≤_}
+use Prim.Native.Nat.{ℕ, zero, suc, _+_, _-_, _*_, _/_, _%_, _<_, _≤_}
 use native.Mathlib.Nat.{mul-zero, add-sub-cancel-left}
 use native.Mathlib.Decide.{decLt}
 use native.Mathlib.Omega.{arith}
@@ -12,7 +12,9 @@ use lib.Dec.{eqb, ltb}
 use Rattle.def_base.specs.Tests.{pick, clash, lt-true, lt-false, eq-true}
 use Rattle.def_layout.specs.Pages.{Page, at, zero-page}
 use Rattle.def_layout.specs.PageBytes.{page-bytes}
-use Rattle.def_layout.specs.Numbers.{be32, same-bytes, zeros}
+use Rattle.def_layout.specs.declared.Entry.{Entry}
+use Rattle.def_layout.specs.Entries.{entry-at, no-entry}
+use Rattle.def_layout.specs.Numbers.{be32, tab, read-entry, same-bytes, zeros}
 use Rattle.def_layout.specs.Records.{Rec, Kind, kind-of, begin, insert, delete, commit}
 use Rattle.def_layout.specs.RecordBytes.{Slot, empty, full, other, record-bytes, record-fields, full-by, slot-by, read-slot}
 use Rattle.def_layout.specs.Sizes.{page-size, slot-size}
@@ -24,13 +26,18 @@ use Rattle.law_bytes.specs.Patch.{patch, patch-back}
 use Rattle.law_bytes.specs.Pieces.{write-all, read-all-at}
 use Rattle.law_bytes.specs.PageBytes.{Fits, page-bytes-length, word-8}
 use Rattle.law_bytes.specs.PageAreas.{pages-bytes}
+use Rattle.law_bytes.specs.Tables.{tab-length, tab-same, getD-tab}
+use Rattle.law_bytes.specs.EntryBytes.{used}
 use Rattle.law_bytes.specs.LogAreas.{slots-of}
+use Rattle.codec_slot.specs.Typed.{rec-of}
 use Rattle.law_areas.specs.Pages.{fits-past}
+use Rattle.record_apply.specs.declared.Record.{Record}
+use Rattle.record_apply.specs.Pages.{rec}
 use Rattle.record_leaf.specs.Leaves.{Does}
 use Rattle.record_pages.specs.Pages.{Pages, pages-put}
 use Rattle.record_pages.specs.Records.{Keeps}
 use Rattle.record_redo.specs.Outcomes.{Answers, pair, nothing, none-answers, one-record, in-places, followed-nothing}
-use Rattle.record_redo.specs.Slots.{is-full, full-record}
+use Rattle.record_redo.specs.Slots.{Tells, is-full, full-record}
 
 -- DONE, of whatever record stands in slot i and of whatever pages the area shows: every change fits, and so many were applied.
 abbrev pub Done : ℕ → ℕ → List ℕ → List ℕ → ℕ → List ℕ → ℕ → Type 0
@@ -94,6 +101,26 @@ module _ (m i : ℕ) (log : List ℕ) (h : i < m) (own : ℕ) (q : Rec) (stands 
   pub second-shown : (w : ℕ) → w ≡ be32 slot 24 → q .second ≡ w
   unfolding record-fields
   second-shown w e = ap (λ (r : Rec). r .second) shown ∙ sym e
+
+-- The program's record of a slot's bytes, its count cut to 14.
+pub fields-read : (b : List ℕ) (w p batch previous key second right n : ℕ) (es : List Entry) → w ≡ be32 b 0 → p ≡ be32 b 16 → es ≡ tab 14 (read-entry b 32) → batch ≡ be32 b 8 → previous ≡ be32 b 12
+    → key ≡ be32 b 20 → second ≡ be32 b 24 → right ≡ be32 b 28 → (w / 16777216 % 16 ≤ 14 → n ≡ w / 16777216 % 16) → be32 b 0 / 16777216 % 16 ≤ 14
+    → rec-of (w / 268435456) n (w / 1048576 % 16) batch previous (p / 4194304) (p / 4096 % 1024) (p / 4 % 1024) key second (right / 4194304) es ≡ record-fields b
+unfolding record-fields
+fields-read b w p batch previous key second right n es ew ep ee eb ev ek es′ er cut few =
+    let k : w / 16777216 % 16 ≤ 14 = subst (λ (x : ℕ). x / 16777216 % 16 ≤ 14) (sym ew) few in
+    let m : n ≡ be32 b 0 / 16777216 % 16 = cut k ∙ ap (λ (x : ℕ). x / 16777216 % 16) ew in
+    let same : used (be32 b 0 / 16777216 % 16) (tab 14 (read-entry b 32)) ≡ tab (be32 b 0 / 16777216 % 16) (read-entry b 32) =
+    tab-same (be32 b 0 / 16777216 % 16) (entry-at (tab 14 (read-entry b 32))) (read-entry b 32) (λ i q. getD-tab 14 i (read-entry b 32) no-entry (omega (arith, q, few))) in
+    rw (m, ew, ep, ee, eb, ev, ek, es′, er, same)
+
+pub record-tells : (m i : ℕ) (log : List ℕ) (r : Record) → i < m → (be32 (lent slot-size i log) 0 / 16777216 % 16 ≤ 14 → rec r ≡ record-fields (lent slot-size i log)) → Tells m log i r
+unfolding record-fields
+record-tells m i log r h f own q stands few =
+    let s : q ≡ record-fields (part log (slot-size * i) slot-size) = shown m i log h own q stands in
+    let k : be32 (part log (slot-size * i) slot-size) 0 / 16777216 % 16 ≤ 14 =
+    omega (arith, few, ap (λ (x : Rec). length (x .entries)) s, tab-length (be32 (part log (slot-size * i) slot-size) 0 / 16777216 % 16) (read-entry (part log (slot-size * i) slot-size) 32)) in
+    subst (λ (b : List ℕ). be32 b 0 / 16777216 % 16 ≤ 14 → rec r ≡ record-fields b) (lent-part slot-size i log) f k ∙ sym s
 
 -- ---- no page
 

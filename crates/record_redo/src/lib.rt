@@ -1,7 +1,7 @@
 // Restart's redo of a whole log: each record at its pages, judged page by page, with the count of the page changes that it applied.
+use codec_bytes::copy_part;
 use codec_bytes::get32;
-use codec_slot::Header;
-use codec_slot::read_at;
+use codec_entries::read_entries;
 use def_layout::Entry;
 use def_layout::MOST_ENTRIES;
 use def_layout::PAGE_SIZE;
@@ -19,16 +19,19 @@ use record_pages::put_page;
 ghost use mathlib.Core.Path.{_≡_};
 ghost use mathlib.Core.Bool.{true, false};
 ghost use mathlib.Core.List.{List};
-ghost use Prim.Native.Nat.{_+_, _*_, _≤_, _<_};
+ghost use Prim.Native.Nat.{_+_, _*_, _/_, _%_, _≤_, _<_};
 ghost use lib.ListN.{length};
-ghost use Rattle.def_layout.specs.Sizes.{room};
+ghost use Rattle.def_layout.specs.Sizes.{room, slot-size};
 ghost use Rattle.def_layout.specs.Pages as layout;
+ghost use Rattle.def_layout.specs.Numbers.{be32};
 ghost use Rattle.def_layout.specs.Records.{Rec};
+ghost use Rattle.def_layout.specs.RecordBytes.{record-fields};
 ghost use Rattle.law_bytes.specs.AreaSizes.{HasPages, HasSlots, HasAreas};
 ghost use Rattle.record_apply.specs.Pages.{rec};
 ghost use Rattle.record_pages.specs.Pages.{Pages};
 ghost use Rattle.record_pages.specs.Records.{Keeps};
 ghost use Rattle.record_redo.specs.Logs.{Logged, Slot};
+ghost use Rattle.record_redo.specs.Copies.{Copied};
 ghost use Rattle.record_redo.specs.Slots.{Tells};
 ghost use Rattle.record_redo.specs.AtOnce.{Done};
 ghost use Rattle.record_redo.specs.Outcomes.{Outcome, Answers, pair, part, followed, one-record, whole};
@@ -68,6 +71,30 @@ fn at_most_room(count: u32) -> u32
     count
 }
 
+// The record that 144 bytes show. Whether they are a record's was judged before: of others nothing is said.
+fn record_in(s: &[u8]) -> Record
+    requires { ⌜ length (now s) ≡ slot-size ⌝ }
+    ensures { λ r. ⌜ (r .count ≤ room) × (be32 (now (s .entry)) 0 / 16777216 % 16 ≤ room → rec r ≡ record-fields (now (s .entry))) ⌝ }
+{
+    let w = get32(s, slot::FRONT_AT);
+    let pages = get32(s, slot::PAGES_AT);
+    let entries = read_entries(s, slot::ENTRIES_AT);
+    Record {
+        kind: w / slot::KIND_UNIT,
+        count: at_most_room(w / slot::COUNT_UNIT % 16),
+        level: w / slot::LEVEL_UNIT % 16,
+        batch: get32(s, slot::BATCH_AT),
+        previous: get32(s, slot::PREVIOUS_AT),
+        a: pages / slot::A_UNIT,
+        b: pages / slot::B_UNIT % 1024,
+        c: pages / slot::C_UNIT % 1024,
+        key: get32(s, slot::KEY_AT),
+        second: get32(s, slot::SECOND_AT),
+        right: get32(s, slot::RIGHT_AT) / slot::RIGHT_UNIT,
+        entries,
+    }
+}
+
 // The record in slot i of a log of m slots, the first slot being 0.
 pub fn record_at(log: &[u8], m: usize, i: usize) -> Record
     requires { ⌜ HasSlots m (now log) ⌝ }
@@ -76,41 +103,7 @@ pub fn record_at(log: &[u8], m: usize, i: usize) -> Record
     if i >= m {
         return no_record();
     }
-    let s = read_at(log, SLOT_SIZE * i);
-    let header = s.header;
-    let entries = s.entries;
-    let Header::Full {
-        kind,
-        count,
-        level,
-        own: _,
-        batch,
-        previous,
-        a,
-        b,
-        c,
-        key,
-        second,
-        right,
-    } = header
-    else {
-        return no_record();
-    };
-    let count = at_most_room(count);
-    Record {
-        kind,
-        count,
-        level,
-        batch,
-        previous,
-        a,
-        b,
-        c,
-        key,
-        second,
-        right,
-        entries,
-    }
+    record_in(&log[SLOT_SIZE * i..SLOT_SIZE * i + SLOT_SIZE])
 }
 
 // Record r, number k, at page p. A page whose number is lower must fit: one that does not is left as it is.
@@ -251,10 +244,35 @@ fn redo_slot(pages: &mut [u8], n: usize, log: &[u8], m: usize, i: usize) -> Redo
     redo_places(pages, n, r, (i + 1) as u32)
 }
 
-// The first `logged` records of a log, each at its pages, up to the first that does not fit.
-pub fn redo_log(pages: &mut [u8], log: &[u8], n: usize, m: usize, logged: u32) -> Redone
-    requires { ⌜ HasAreas n m (now pages) (now log) × (logged ≤ m) ⌝ }
-    ensures { λ d. ⌜ (d .count ≤ 4 * logged) × ((xs : List layout.Page) (l : List Rec) → Pages n (now (pages .entry)) xs → Logged m (now (log .entry)) l → length l ≡ logged → Answers n (now (pages .exit)) d (whole 1 l xs)) ⌝ }
+// Slot i of a log of m slots goes to the same place of another.
+fn copy_slot(to: &mut [u8], log: &[u8], m: usize, i: usize)
+    requires { ⌜ HasSlots m (now log) × HasSlots m (now to) × (i < m) ⌝ }
+    ensures { λ _. ⌜ (Copied (slot-size * i) (now (log .entry)) (now (to .entry)) → Copied (slot-size * (i + 1)) (now (log .entry)) (now (to .exit))) ⌝ }
+{
+    copy_part(to, SLOT_SIZE * i, log, SLOT_SIZE * i, SLOT_SIZE);
+}
+
+// The slots from i on go there.
+fn copy_from(to: &mut [u8], log: &[u8], m: usize, i: usize)
+    requires { ⌜ HasSlots m (now log) × HasSlots m (now to) × (i ≤ m) ⌝ }
+    ensures { λ _. ⌜ (Copied (slot-size * i) (now (log .entry)) (now (to .entry)) → now (to .exit) ≡ now (log .entry)) ⌝ }
+{
+    copy_part(to, SLOT_SIZE * i, log, SLOT_SIZE * i, SLOT_SIZE * (m - i));
+}
+
+// The first `logged` records of a log, each at its pages, up to the first that does not fit; and the log is copied to another area, a slot as soon as
+// it is redone: its bytes are at hand then, and the copy's stores go on while the next record is looked at.
+pub fn redo_log(
+    pages: &mut [u8],
+    to: &mut [u8],
+    log: &[u8],
+    n: usize,
+    m: usize,
+    logged: u32,
+) -> Redone
+    requires { ⌜ HasAreas n m (now pages) (now log) × HasSlots m (now to) × (logged ≤ m) ⌝ }
+    ensures { λ d.
+        ⌜ (d .count ≤ 4 * logged) × ((xs : List layout.Page) (l : List Rec) → Pages n (now (pages .entry)) xs → Logged m (now (log .entry)) l → length l ≡ logged → Answers n (now (pages .exit)) d (whole 1 l xs)) × (d .ok ≡ true → now (to .exit) ≡ now (log .entry)) ⌝ }
 {
     let mut count: u32 = 0;
     let mut i: u32 = 0;
@@ -263,8 +281,10 @@ pub fn redo_log(pages: &mut [u8], log: &[u8], n: usize, m: usize, logged: u32) -
         if !d.ok {
             return d;
         }
+        copy_slot(to, log, m, i as usize);
         count = count + d.count;
         i = i + 1;
     }
+    copy_from(to, log, m, i as usize);
     Redone { ok: true, count }
 }

@@ -11,50 +11,54 @@ use Rattle.call_restart.specs.Recovered.{refused-so, done-so}
 returns : tie.Need-returns
 returns c =
     let z = c .before .before .before .before .zeroed .ensures in
-    refused-so _ _ _ (c .before .before .before .before .before .before .before .before .before .before .before .readied .ensures .refuses (not-true _ (c .before .before .before .before .before .before .before .if1 .taken))) (z .0) (z .1) (c .before .before .before .before .before .before .before .before .before .before .before .readied .kept .0) refl (z .2) (z .3)
+    let y = c .before .before .before .before .before .before .before .before .before .before .before .before .before .readied in
+    refused-so _ _ _ (y .ensures .0 .refuses (not-true _ (c .before .before .before .before .before .before .before .if1 .taken))) (z .0) (z .1) (y .kept .0) (y .kept .1 .1 .0) (z .2) (z .3)
 
 settle-requires : tie.Need-settle-requires
 settle-requires c κs =
-    let q = c .before .before .before .before .before .before .before .before .before .before .before .before .before .before .before .before .before .before .before .before .pre in
-    let k = c .before .before .before .before .before .before .before .before .before .before .before .before .before .readied .ensures .known (not-false _ (c .before .before .before .before .before .before .before .before .before .if1 .left)) in
-    ((c .before .before .before .before .before .before .before .before .before .before .before .before .before .readied .kept .0 ∙ q .0 .0, q .0 .1, c .before .before .before .before .copy .kept .0 ∙ q .0 .2, q .0 .3), k .low)
+    let q = c .before .before .before .before .before .before .before .before .before .before .before .before .before .before .before .before .before .before .pre in
+    let y = c .before .before .before .before .before .before .before .before .before .before .readied in
+    let k = y .ensures .0 .known (not-false _ (c .before .before .before .before .if1 .left)) in
+    ((y .kept .0 ∙ q .0 .0, q .0 .1, y .kept .1 .1 .0 ∙ q .0 .2, q .0 .3), k .low)
 
 returns-2 : tie.Need-returns-2
 returns-2 c =
     let z = c .before .before .before .before .zeroed2 .ensures in
-    let v = c .before .before .before .before .before .before .before .before .before .before .before .before .before .before .before .before .before .before .before .before .before .before .before .before .before .before .before .readied .ensures in
-    let on = not-false _ (c .before .before .before .before .before .before .before .before .before .before .before .before .before .before .before .before .before .before .before .before .before .before .before .if1 .left) in
-    refused-so _ _ _ (slots-refuse (v .known on) (v .ready on) (c .before .before .before .before .before .before .before .before .before .before .before .before .before .before .before .before .before .before .copy .ensures) _ (c .before .before .before .before .before .before .before .before .before .before .before .before .before .settle .ensures) (c .before .before .before .before .before .before .before .if2 .taken)) (z .0) (z .1)
-    (c .before .before .before .before .before .before .before .before .before .before .before .before .before .settle .kept .0 ∙ c .before .before .before .before .before .before .before .before .before .before .before .before .before .before .before .before .before .before .before .before .before .before .before .before .before .before .before .readied .kept .0) (c .before .before .before .before .before .before .before .before .before .before .before .before .before .settle .kept .1 .0 ∙ c .before .before .before .before .before .before .before .before .before .before .before .before .before .before .before .before .before .before .copy .kept .0) (z .2) (z .3)
-
-same-length-7 : tie.Need-same-length-7
-same-length-7 c = c .before .before .before .before .zeroed3 .kept .0 ∙ (c .before .before .before .before .before .before .before .before .before .before .before .before .before .before .before .settle .kept .0 ∙ c .before .before .before .before .before .before .before .before .before .before .before .before .before .before .before .before .before .before .before .before .before .before .before .before .before .before .before .before .before .readied .kept .0)
+    let u = c .before .before .before .before .before .before .before .before .before .before .before .before .before .settle in
+    let y = c .before .before .before .before .before .before .before .before .before .before .before .before .before .before .before .before .before .before .before .before .before .before .before .before .readied in
+    let on = not-false _ (c .before .before .before .before .before .before .before .before .before .before .before .before .before .before .before .before .before .before .if1 .left) in
+    refused-so _ _ _ (slots-refuse (y .ensures .0 .known on) (y .ensures .0 .ready on) (y .ensures .1 on) _ (u .ensures) (c .before .before .before .before .before .before .before .if2 .taken)) (z .0) (z .1) (u .kept .0 ∙ y .kept .0) (u .kept .1 .0 ∙ y .kept .1 .1 .0) (z .2) (z .3)
 
 returns-3 : tie.Need-returns-3
 returns-3 c =
     let z = c .before .before .before .before .zeroed3 .ensures in
-    let v = c .before .before .before .before .before .before .before .before .before .before .before .before .before .before .before .before .before .before .before .before .before .before .before .before .before .before .before .before .before .readied .ensures in
-    let on = not-false _ (c .before .before .before .before .before .before .before .before .before .before .before .before .before .before .before .before .before .before .before .before .before .before .before .before .before .if1 .left) in
-    refused-so _ _ _ (pages-refuse (v .known on) (v .ready on) (c .before .before .before .before .before .before .before .before .before .before .before .before .before .before .before .before .before .before .before .before .copy .ensures) _ (c .before .before .before .before .before .before .before .before .before .before .before .before .before .before .before .settle .ensures) (c .before .before .before .before .before .before .before .if3 .taken)) (z .0) (z .1)
-    (c .before .before .before .before .before .before .before .before .before .before .before .before .before .before .before .settle .kept .0 ∙ c .before .before .before .before .before .before .before .before .before .before .before .before .before .before .before .before .before .before .before .before .before .before .before .before .before .before .before .before .before .readied .kept .0) (c .before .before .before .before .before .before .before .before .before .before .before .before .before .before .before .settle .kept .1 .0 ∙ c .before .before .before .before .before .before .before .before .before .before .before .before .before .before .before .before .before .before .before .before .copy .kept .0) (z .2) (z .3)
+    let u = c .before .before .before .before .before .before .before .before .before .before .before .before .before .before .before .settle in
+    let y = c .before .before .before .before .before .before .before .before .before .before .before .before .before .before .before .before .before .before .before .before .before .before .before .before .before .before .readied in
+    let on = not-false _ (c .before .before .before .before .before .before .before .before .before .before .before .before .before .before .before .before .before .before .before .before .if1 .left) in
+    refused-so _ _ _ (pages-refuse (y .ensures .0 .known on) (y .ensures .0 .ready on) (y .ensures .1 on) _ (u .ensures) (c .before .before .before .before .before .before .before .if3 .taken)) (z .0) (z .1) (u .kept .0 ∙ y .kept .0) (u .kept .1 .0 ∙ y .kept .1 .1 .0) (z .2) (z .3)
 
 store-slots-requires : tie.Need-store-slots-requires
 store-slots-requires c κs =
-    let q = c .before .before .before .before .before .before .before .before .before .before .before .before .before .before .before .before .before .before .before .before .before .before .before .before .before .before .before .before .before .before .before .before .before .pre in
-    let v = c .before .before .before .before .before .before .before .before .before .before .before .before .before .before .before .before .before .before .before .before .before .before .before .before .before .before .readied .ensures in
-    let on = not-false _ (c .before .before .before .before .before .before .before .before .before .before .before .before .before .before .before .before .before .before .before .before .before .before .if1 .left) in
-    let k = settled-longer (v .known on) (v .ready on) (c .before .before .before .before .before .before .before .before .before .before .before .before .before .before .before .before .before .copy .ensures) _ (c .before .before .before .before .before .before .before .before .before .before .before .before .settle .ensures) in
-    let w = settled-within (v .known on) (v .ready on) (c .before .before .before .before .before .before .before .before .before .before .before .before .before .before .before .before .before .copy .ensures) _ (c .before .before .before .before .before .before .before .before .before .before .before .before .settle .ensures) in
-    (k, omega (arith, w, q .0 .3), omega (arith, w, q .1 .2), omega (arith, w, c .before .before .before .before .before .before .before .before .before .before .before .before .settle .kept .1 .0, c .before .before .before .before .before .before .before .before .before .before .before .before .before .before .before .before .before .copy .kept .0, q .0 .2))
+    let q = c .before .before .before .before .before .before .before .before .before .before .before .before .before .before .before .before .before .before .before .before .before .before .before .before .before .before .before .before .before .before .before .pre in
+    let u = c .before .before .before .before .before .before .before .before .before .before .before .before .settle in
+    let y = c .before .before .before .before .before .before .before .before .before .before .before .before .before .before .before .before .before .before .before .before .before .before .before .readied in
+    let on = not-false _ (c .before .before .before .before .before .before .before .before .before .before .before .before .before .before .before .before .before .if1 .left) in
+    let k = settled-longer (y .ensures .0 .known on) (y .ensures .0 .ready on) (y .ensures .1 on) _ (u .ensures) in
+    let w = settled-within (y .ensures .0 .known on) (y .ensures .0 .ready on) (y .ensures .1 on) _ (u .ensures) in
+    (k, omega (arith, w, q .0 .3), omega (arith, w, q .1 .2), omega (arith, w, u .kept .1 .0, y .kept .1 .1 .0, q .0 .2))
 
 same-length-10 : tie.Need-same-length-10
-same-length-10 c = c .before .before .before .before .before .before .before .before .before .before .before .before .before .before .before .before .before .settle .kept .0 ∙ c .before .before .before .before .before .before .before .before .before .before .before .before .before .before .before .before .before .before .before .before .before .before .before .before .before .before .before .before .before .before .before .readied .kept .0
+same-length-10 c = c .before .before .before .before .before .before .before .before .before .before .before .before .before .before .before .before .before .settle .kept .0 ∙ c .before .before .before .before .before .before .before .before .before .before .before .before .before .before .before .before .before .before .before .before .before .before .before .before .before .before .before .before .readied .kept .0
+
+same-length-11 : tie.Need-same-length-11
+same-length-11 c = c .before .before .before .before .before .before .before .before .before .before .before .before .before .before .before .before .before .settle .kept .1 .0 ∙ c .before .before .before .before .before .before .before .before .before .before .before .before .before .before .before .before .before .before .before .before .before .before .before .before .before .before .before .before .readied .kept .1 .1 .0
 
 returns-4 : tie.Need-returns-4
 returns-4 c =
-    let v = c .before .before .before .before .before .before .before .before .before .before .before .before .before .before .before .before .before .before .before .before .before .before .before .before .before .before .before .before .before .before .before .readied .ensures in
-    let on = not-false _ (c .before .before .before .before .before .before .before .before .before .before .before .before .before .before .before .before .before .before .before .before .before .before .before .before .before .before .before .if1 .left) in
-    done-so (v .known on) (v .ready on) (c .before .before .before .before .before .before .before .before .before .before .before .before .before .before .before .before .before .before .before .before .before .before .copy .ensures) _ (c .before .before .before .before .before .before .before .before .before .before .before .before .before .before .before .before .before .settle .ensures) _ (c .before .before .before .before .before .before .before .before .before .before .before .if2 .left) (c .before .before .before .before .before .before .before .before .before .if3 .left) (c .before .used-rows .ensures .0) (c .before .before .before .before .store-slots .ensures) refl (c .idle-desk .ensures)
+    let u = c .before .before .before .before .before .before .before .before .before .before .before .before .before .before .before .before .before .settle in
+    let y = c .before .before .before .before .before .before .before .before .before .before .before .before .before .before .before .before .before .before .before .before .before .before .before .before .before .before .before .before .readied in
+    let on = not-false _ (c .before .before .before .before .before .before .before .before .before .before .before .before .before .before .before .before .before .before .before .before .before .before .if1 .left) in
+    done-so (y .ensures .0 .known on) (y .ensures .0 .ready on) (y .ensures .1 on) _ (u .ensures) _ (c .before .before .before .before .before .before .before .before .before .before .before .if2 .left) (c .before .before .before .before .before .before .before .before .before .if3 .left) (c .before .used-rows .ensures .0) (c .before .before .before .before .store-slots .ensures) refl (c .idle-desk .ensures)
 
 pub recovered-spec : {M : Type 1} → statement M
 recovered-spec =
@@ -66,7 +70,6 @@ recovered-spec =
     (λ c. search needs)
     (λ c. search needs)
     returns
-    (λ c κs. search needs)
     settle-requires
     (λ c κs. search needs)
     (λ c. search needs)
@@ -74,7 +77,7 @@ recovered-spec =
     (λ c. search needs)
     returns-2
     (λ c κs. search needs)
-    same-length-7
+    (λ c. search needs)
     (λ c. search needs)
     (λ c. search needs)
     returns-3
@@ -85,6 +88,6 @@ recovered-spec =
     (λ c. search needs)
     (λ c κs. search needs)
     same-length-10
-    (λ c. search needs)
+    same-length-11
     (λ c. search needs)
     returns-4)
