@@ -21,7 +21,7 @@ use Rattle.log_chain.specs.Shown.{right-with, marks-of, Shows}
 use Rattle.log_chain.specs.Steps.{Steps, Stepped, GoesOn}
 use Rattle.log_chain.specs.Families.{longer-row, begun-row}
 use Rattle.log_chain.specs.Ends.{commits}
-use Rattle.log_judge.specs.declared.First.{First}
+use Rattle.log_judge.specs.declared.first.First.{First}
 use Rattle.log_judge.specs.Updates.{TellsUpdate, TellsBatch}
 use Rattle.log_judge.specs.Turns.{Turns, by-step, update-goes, first-place, first-goes}
 

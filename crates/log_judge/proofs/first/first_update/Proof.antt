@@ -1,7 +1,7 @@
 -- `first_update`: the row is longer where the update goes on it.
 use borrow.Author.Needs.{needs}
-use Rattle.log_judge.proofs.first_update.Statement.{statement}
-use Rattle.log_judge.proofs.first_update.Tie as tie
+use Rattle.log_judge.proofs.first.first_update.Statement.{statement}
+use Rattle.log_judge.proofs.first.first_update.Tie as tie
 use mathlib.Core.Path.{sym, _∙_}
 use borrow.Author.Tests.{not-false}
 use Rattle.def_base.specs.Tests.{clash}

@@ -1,7 +1,7 @@
 -- `update_at`: no update, or the words of one.
 use borrow.Author.Needs.{needs}
-use Rattle.log_judge.proofs.update_at.Statement.{statement}
-use Rattle.log_judge.proofs.update_at.Tie as tie
+use Rattle.log_judge.proofs.slots.update_at.Statement.{statement}
+use Rattle.log_judge.proofs.slots.update_at.Tie as tie
 use borrow.Author.Tests.{not-false}
 use Rattle.log_judge.specs.Updates.{tells-so}
 

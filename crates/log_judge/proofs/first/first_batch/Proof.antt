@@ -1,7 +1,7 @@
 -- `first_batch`: a begin, a commit, or neither.
 use borrow.Author.Needs.{needs}
-use Rattle.log_judge.proofs.first_batch.Statement.{statement}
-use Rattle.log_judge.proofs.first_batch.Tie as tie
+use Rattle.log_judge.proofs.first.first_batch.Statement.{statement}
+use Rattle.log_judge.proofs.first.first_batch.Tie as tie
 use mathlib.Core.Path.{sym, _∙_}
 use native.Mathlib.Omega.{arith}
 use borrow.Author.Tests.{not-false}

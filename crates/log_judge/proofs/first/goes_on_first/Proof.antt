@@ -1,7 +1,7 @@
 -- `goes_on_first`: four tests, and what is left when none of them ends it.
 use borrow.Author.Needs.{needs}
-use Rattle.log_judge.proofs.goes_on_first.Statement.{statement}
-use Rattle.log_judge.proofs.goes_on_first.Tie as tie
+use Rattle.log_judge.proofs.first.goes_on_first.Statement.{statement}
+use Rattle.log_judge.proofs.first.goes_on_first.Tie as tie
 use mathlib.Core.Path.{sym}
 use Rattle.def_base.specs.Tests.{clash}
 

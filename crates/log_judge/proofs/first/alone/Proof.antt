@@ -1,7 +1,7 @@
 -- `alone`: an update, a change of the tree, a begin or a commit.
 use borrow.Author.Needs.{needs}
-use Rattle.log_judge.proofs.alone.Statement.{statement}
-use Rattle.log_judge.proofs.alone.Tie as tie
+use Rattle.log_judge.proofs.first.alone.Statement.{statement}
+use Rattle.log_judge.proofs.first.alone.Tie as tie
 use Rattle.log_judge.specs.Alone.{alone-change}
 
 returns : tie.Need-returns

@@ -1,7 +1,7 @@
 -- `empty_slot`: the lent part is all zero.
 use borrow.Author.Needs.{needs}
-use Rattle.log_judge.proofs.empty_slot.Statement.{statement}
-use Rattle.log_judge.proofs.empty_slot.Tie as tie
+use Rattle.log_judge.proofs.slots.empty_slot.Statement.{statement}
+use Rattle.log_judge.proofs.slots.empty_slot.Tie as tie
 use native.Mathlib.Nat.{add-sub-cancel-left}
 use Rattle.log_judge.specs.Rest.{slot-found}
 

@@ -1,7 +1,7 @@
 -- `is_update`: where every test passes, the words and the zeros say what the slot holds.
 use borrow.Author.Needs.{needs}
-use Rattle.log_judge.proofs.is_update.Statement.{statement}
-use Rattle.log_judge.proofs.is_update.Tie as tie
+use Rattle.log_judge.proofs.slots.is_update.Statement.{statement}
+use Rattle.log_judge.proofs.slots.is_update.Tie as tie
 use native.Mathlib.Omega.{arith}
 use mathlib.Core.Path.{sym, _∙_}
 use Rattle.def_base.specs.Tests.{clash}

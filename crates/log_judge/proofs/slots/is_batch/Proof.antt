@@ -1,7 +1,7 @@
 -- `is_batch`: where every test passes, the words and the zeros say what the slot holds.
 use borrow.Author.Needs.{needs}
-use Rattle.log_judge.proofs.is_batch.Statement.{statement}
-use Rattle.log_judge.proofs.is_batch.Tie as tie
+use Rattle.log_judge.proofs.slots.is_batch.Statement.{statement}
+use Rattle.log_judge.proofs.slots.is_batch.Tie as tie
 use native.Mathlib.Omega.{arith}
 use mathlib.Core.Path.{sym, _∙_}
 use Rattle.def_base.specs.Tests.{clash}

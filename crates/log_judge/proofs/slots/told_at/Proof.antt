@@ -1,7 +1,7 @@
 -- `told_at`: six words.
 use borrow.Author.Needs.{needs}
-use Rattle.log_judge.proofs.told_at.Statement.{statement}
-use Rattle.log_judge.proofs.told_at.Tie as tie
+use Rattle.log_judge.proofs.slots.told_at.Statement.{statement}
+use Rattle.log_judge.proofs.slots.told_at.Tie as tie
 
 returns : tie.Need-returns
 returns c =

@@ -1,7 +1,7 @@
 -- `batch_at`: neither, or the words of one.
 use borrow.Author.Needs.{needs}
-use Rattle.log_judge.proofs.batch_at.Statement.{statement}
-use Rattle.log_judge.proofs.batch_at.Tie as tie
+use Rattle.log_judge.proofs.slots.batch_at.Statement.{statement}
+use Rattle.log_judge.proofs.slots.batch_at.Tie as tie
 use native.Mathlib.Omega.{arith}
 use borrow.Author.Tests.{not-false}
 use Rattle.log_judge.specs.Updates.{tells-batch}

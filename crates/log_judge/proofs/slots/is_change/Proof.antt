@@ -1,7 +1,7 @@
 -- `is_change`: of a record of kind 9 to 15 in order, the step leaves rows and marks.
 use borrow.Author.Needs.{needs}
-use Rattle.log_judge.proofs.is_change.Statement.{statement}
-use Rattle.log_judge.proofs.is_change.Tie as tie
+use Rattle.log_judge.proofs.slots.is_change.Statement.{statement}
+use Rattle.log_judge.proofs.slots.is_change.Tie as tie
 use mathlib.Core.Path.{sym, _∙_}
 use Rattle.def_base.specs.Tests.{clash}
 use Rattle.log_chain.specs.Shown.{right-with}

@@ -1,7 +1,7 @@
 -- `in_order`: the three tests in turn.
 use borrow.Author.Needs.{needs}
-use Rattle.log_judge.proofs.in_order.Statement.{statement}
-use Rattle.log_judge.proofs.in_order.Tie as tie
+use Rattle.log_judge.proofs.slots.in_order.Statement.{statement}
+use Rattle.log_judge.proofs.slots.in_order.Tie as tie
 use mathlib.Core.Path.{_≡_, sym, _∙_}
 use mathlib.Core.Bool.{true, false}
 use Prim.Native.Nat.{suc}
