@@ -70,6 +70,7 @@ def check(crate, edits, build):
             spots = [spot for edit in edits if edit.file == file for spot in edit.spots]
             open(path, 'w', encoding='utf-8').write(change_text(text, spots))
         before, after = proved_modules(crate), os.path.join(copy, 'target', 'inc', crate, build)
+        # Left out of what is taken as proved, so that what is read of them afterwards is of the edited code.
         ties = [tie_of(crate, place) for edit in edits for place in edit.places]
         if os.path.isdir(before):
             shutil.copytree(before, after, ignore=lambda folder, names: ties)
