@@ -65,6 +65,8 @@
  *    6  The pages, once redone, break the rules of the tree, or do not agree with the open batches' changes. Restart.
  *       3 to 6: both working areas become zeros, the desk becomes empty, the stable areas stay as they were. If a power failure cut a
  *       format, format again. Otherwise the stable areas were damaged: keep them as they are; docs/SERVICE.md says what can be brought back.
+ *    7  The key is 0, which stands for a label that could not be read. Insert, whatever the areas hold. Nothing changes. Slides that an
+ *       earlier version filed under 0 are still fetched and deleted; next never finds one, as it looks above the key that it is given.
  *   11  The working areas or the desk are not sound: not what calls leave. Every call but format and restart. Nothing changes.
  *       After a power failure this is the usual answer until restart has run, and not one to rely on: see COMING BACK.
  *   12  There is no such open batch. Fetch, next, insert, delete, commit, abort. Nothing changes.
@@ -172,7 +174,7 @@
  *
  *   int main(void)
  *   {
- *       const struct donzhikar_slide chosen[] = { { 500, 7 }, { 0, 8 } };
+ *       const struct donzhikar_slide chosen[] = { { 500, 7 }, { 501, 8 } };
  *       slides.work_pages = work_pages;
  *       slides.stable_pages = stable_pages;
  *       slides.pages = 16;
@@ -211,7 +213,7 @@
 extern "C" {
 #endif
 
-#define DONZHIKAR_VERSION "1.0.0"
+#define DONZHIKAR_VERSION "1.1.0"
 
 #define DONZHIKAR_PAGE_BYTES 128
 #define DONZHIKAR_SLOT_BYTES 144
@@ -230,6 +232,7 @@ extern "C" {
 #define DONZHIKAR_ERROR_DAMAGED_LOG 4
 #define DONZHIKAR_ERROR_PAGE_AND_LOG_DISAGREE 5
 #define DONZHIKAR_ERROR_DAMAGED_TREE 6
+#define DONZHIKAR_ERROR_UNREAD_LABEL 7
 #define DONZHIKAR_ERROR_NOT_SOUND 11
 #define DONZHIKAR_ERROR_NO_SUCH_BATCH 12
 #define DONZHIKAR_ERROR_EIGHT_BATCHES_OPEN 13
@@ -264,6 +267,7 @@ static inline const char *donzhikar_text(uint32_t reason)
     case DONZHIKAR_ERROR_DAMAGED_LOG: return "the stored log is damaged, or a page is ahead of it";
     case DONZHIKAR_ERROR_PAGE_AND_LOG_DISAGREE: return "a stored page and the log do not agree";
     case DONZHIKAR_ERROR_DAMAGED_TREE: return "the stored pages make no tree, or do not agree with the open batches";
+    case DONZHIKAR_ERROR_UNREAD_LABEL: return "key 0 stands for an unread label";
     case DONZHIKAR_ERROR_NOT_SOUND: return "the working areas or the desk are not what calls leave; after a power failure, restart";
     case DONZHIKAR_ERROR_NO_SUCH_BATCH: return "no such batch is open";
     case DONZHIKAR_ERROR_EIGHT_BATCHES_OPEN: return "eight batches are open";
@@ -308,8 +312,8 @@ uint32_t donzhikar_next(
     uint8_t *desk, size_t desk_length, uint8_t *values, size_t values_length,
     uint32_t batch, uint32_t key);
 
-/* Files a slide, in an open batch. Every key and every value is allowed.
- * Refused: 1, 11, 12, 14, 15, 17, 18. */
+/* Files a slide, in an open batch. Every key but 0, and every value, is allowed.
+ * Refused: 1, 7, 11, 12, 14, 15, 17, 18. */
 uint32_t donzhikar_insert(
     uint8_t *work_pages, size_t work_pages_length, const uint8_t *stable_pages, size_t stable_pages_length,
     uint8_t *work_log, size_t work_log_length, const uint8_t *stable_log, size_t stable_log_length,
@@ -488,8 +492,9 @@ static inline size_t donzhikar_updates_left(const struct donzhikar *r)
 
 /* ---- the loops that everyone writes */
 
-/* Gives all slides to `take`, by rising key, as an open batch sees them, until it returns other than 0. Key 0 is looked up by fetch, as no
- * key is below it; the others come by next. Returns 0 at the end, or the refusal: at 14 another open batch has changed a slide further on.
+/* Gives all slides to `take`, by rising key, as an open batch sees them, until it returns other than 0. Key 0, of an earlier version, is
+ * looked up by fetch, as no key is below it; the others come by next. Returns 0 at the end, or the refusal: at 14 another open batch has
+ * changed a slide further on.
  * Wait until that batch has ended, and list again from the start. A program with one batch at a time does not meet it. */
 static inline uint32_t donzhikar_list_in(
     struct donzhikar *r, uint32_t batch, int (*take)(void *with, uint32_t key, uint32_t value), void *with)
@@ -527,9 +532,9 @@ static inline uint32_t donzhikar_try_to_file_in(struct donzhikar *r, const struc
 
 /* Files a case, all of its slides or none. Returns 0 when it is committed; else the refusal, and nothing of it is filed.
  * 13 and 14 pass when other batches end: `wait` is to let them, and while it returns 0 the case is tried again. With NULL it is tried once.
- * Each try costs slots, so wait for something. 15: a slide of the case is there already. 17 and 18: commit or abort other batches; else the
- * register is full, or the case is too large (HOW MUCH FITS). The host has yet to see to it that the stores are there
- * (WHAT THE HOST MUST GUARANTEE). */
+ * Each try costs slots, so wait for something. 7: a slide's label was not read. 15: a slide of the case is there already. 17 and 18: commit
+ * or abort other batches; else the register is full, or the case is too large (HOW MUCH FITS). The host has yet to see to it that the stores
+ * are there (WHAT THE HOST MUST GUARANTEE). */
 static inline uint32_t donzhikar_file_in(
     struct donzhikar *r, const struct donzhikar_slide *slides, size_t count, int (*wait)(void *with), void *with)
 {

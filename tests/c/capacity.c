@@ -60,28 +60,28 @@ static uint32_t insert(struct donzhikar *r, uint32_t batch, uint32_t key)
 static uint32_t filed(size_t pages, size_t slots, uint32_t of)
 {
     struct donzhikar r = new_register(pages, slots);
-    uint32_t key = 0, batch, reason = DONZHIKAR_DONE;
+    uint32_t count = 0, batch, reason = DONZHIKAR_DONE;
     while (donzhikar_begin_in(&r, &batch) == DONZHIKAR_DONE) {
         for (uint32_t slide = 0; slide < of && reason == DONZHIKAR_DONE; slide++)
-            reason = insert(&r, batch, key + slide);
+            reason = insert(&r, batch, 1 + count + slide);
         if (reason != DONZHIKAR_DONE || donzhikar_commit_in(&r, batch) != DONZHIKAR_DONE)
             break;
-        key += of;
+        count += of;
     }
     give_back(&r);
-    return key;
+    return count;
 }
 
 /* Inserts in one batch until one is refused. */
 static uint32_t uncommitted(size_t pages, size_t slots)
 {
     struct donzhikar r = new_register(pages, slots);
-    uint32_t key = 0, batch;
+    uint32_t count = 0, batch;
     if (donzhikar_begin_in(&r, &batch) == DONZHIKAR_DONE)
-        while (insert(&r, batch, key) == DONZHIKAR_DONE)
-            key++;
+        while (insert(&r, batch, 1 + count) == DONZHIKAR_DONE)
+            count++;
     give_back(&r);
-    return key;
+    return count;
 }
 
 int main(void)

@@ -221,6 +221,22 @@ static int left(const uint8_t *bytes, size_t n, size_t zeroed)
     return 1;
 }
 
+/* 7 to an insert of key 0, whatever batch it names, and to no other call; also where the working areas are not sound. */
+static void unread(void)
+{
+    struct instrument in = formatted(16, 128);
+    uint32_t batch = begin(&in);
+    say(&in, "insert 0", 'I', batch, 0, 5);
+    say(&in, "of no batch", 'I', 9, 0, 5);
+    say(&in, "insert 1", 'I', batch, 1, 5);
+    say(&in, "fetch 0", 'F', batch, 0, 0);
+    say(&in, "delete 0", 'D', batch, 0, 0);
+    in.areas[WORK_PAGES].bytes[0] ^= 1;
+    say(&in, "insert 0, unsound", 'I', batch, 0, 5);
+    say(&in, "insert 2, unsound", 'I', batch, 2, 5);
+    give_back(&in);
+}
+
 /* Every length of the desk and the values but the right one is refused by 1. Values of 8 bytes become zeros, and by restart a desk of 136. */
 static void wrong_lengths(void)
 {
@@ -267,6 +283,7 @@ int main(void)
     session("pages short", pages_short);
     session("a cut", lost);
     session("the console's", console);
+    session("key 0", unread);
     session("desk and values of other lengths", wrong_lengths);
     return 0;
 }

@@ -93,15 +93,17 @@ static int lend_all(void *with, struct donzhikar *to)
 
 static void try_loops(void)
 {
-    const struct donzhikar_slide chosen[] = { { 0, 1 }, { 500, 7 }, { DONZHIKAR_MOST_SLOTS, 2 } };
+    const struct donzhikar_slide chosen[] = { { 1, 1 }, { 500, 7 }, { DONZHIKAR_MOST_SLOTS, 2 } };
+    const struct donzhikar_slide unread = { 0, 1 };
     struct seen seen = { { 0 }, 0, 8 };
     uint32_t batch, other;
     donzhikar_format_in(&r);
     hold(donzhikar_slots_left(&r) == SLOTS && donzhikar_pages_left(&r) == PAGES - 2 && donzhikar_updates_left(&r) == 4, "left of a new one");
     hold(donzhikar_file_in(&r, chosen, 3, NULL, NULL) == DONZHIKAR_DONE, "file");
     hold(donzhikar_file_in(&r, chosen + 2, 1, NULL, NULL) == DONZHIKAR_ERROR_ALREADY_PRESENT, "file again");
+    hold(donzhikar_file_in(&r, &unread, 1, NULL, NULL) == DONZHIKAR_ERROR_UNREAD_LABEL, "file under 0");
     donzhikar_begin_in(&r, &batch);
-    hold(donzhikar_list_in(&r, batch, see, &seen) == DONZHIKAR_DONE && seen.count == 3 && seen.keys[0] == 0 && seen.keys[2] == 16384, "list");
+    hold(donzhikar_list_in(&r, batch, see, &seen) == DONZHIKAR_DONE && seen.count == 3 && seen.keys[0] == 1 && seen.keys[2] == 16384, "list");
     seen.count = 0;
     seen.most = 2;
     hold(donzhikar_list_in(&r, batch, see, &seen) == DONZHIKAR_DONE && seen.count == 2, "list up to two");
@@ -125,7 +127,7 @@ static void try_coming_back(void)
         slide.key++;
     }
     donzhikar_begin_in(&r, &batch);
-    donzhikar_insert_in(&r, batch, 0, 0);
+    donzhikar_insert_in(&r, batch, slide.key, 0);
     donzhikar_write_out_in(&r, 1);
     r.slots = donzhikar_value(r.desk, 33);
     hold(donzhikar_come_back_in(&r, NULL, NULL) == DONZHIKAR_ERROR_SLOTS_SHORT, "come back in too few slots");
@@ -135,9 +137,9 @@ static void try_coming_back(void)
 
 static void try_texts(void)
 {
-    const char *none = donzhikar_text(7);
+    const char *none = donzhikar_text(8);
     for (uint32_t reason = 0; reason <= 20; reason++) {
-        const int known = reason <= 6 || (reason >= 11 && reason <= 19);
+        const int known = reason <= 7 || (reason >= 11 && reason <= 19);
         hold((strcmp(donzhikar_text(reason), none) != 0) == known, "text");
     }
     hold(strcmp(DONZHIKAR_VERSION, "") != 0, "version");

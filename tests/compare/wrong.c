@@ -42,6 +42,9 @@ struct fault {
     enum { ANY_ROOM, EXACT_SLOTS, EXACT_PAGES } room;
     /* Only where the last record of the stable log is to be redone, and refusal 5 goes by entries that are out of order, or by none. */
     enum { ANY_RECORD, KEY_PASSED_BY, MOVED_OUT_OF_ORDER, MERGE_OF_NONE } last;
+    /* Only where the call is given key 0; only where a fetch of it answers `with` besides, which so is asked first; only where the log takes
+     * a deletion of key 0 back. */
+    enum { ANY_KEY, KEY_0, KEY_0_LATE, KEY_0_PUT_BACK } key;
 };
 
 #define ALWAYS .least_pages = 0
@@ -96,6 +99,14 @@ static const struct fault faults[] = {
     {"commit-writes-a-page-and-puts-it-back", 'C', 0, PUTS_BACK, STABLE_PAGES, ALWAYS},
     {"large-insert-takes-more-stack", 'I', 0, DIGS, 0, .least_pages = LARGE},
     {"one-buffer-for-all-calls", 'I', 0, SHARES, 0, ALWAYS},
+    {"key-0-refused-after-11", 'I', 7, ANSWERS, 11, .key = KEY_0_LATE},
+    {"key-0-refused-after-12", 'I', 7, ANSWERS, 12, .key = KEY_0_LATE},
+    {"key-0-refused-before-1", 'I', 1, ANSWERS, 7, .key = KEY_0},
+    {"key-0-inserted", 'I', 7, ANSWERS, 0, ALWAYS},
+    {"key-0-not-fetched", 'F', 0, ANSWERS, 7, .key = KEY_0},
+    {"key-0-not-deleted", 'D', 0, ANSWERS, 7, .key = KEY_0},
+    {"key-0-not-put-back-by-restart", 'R', 0, ANSWERS, 4, .key = KEY_0_PUT_BACK},
+    {"key-0-not-put-back-by-abort", 'A', 0, ANSWERS, 19, .key = KEY_0_PUT_BACK},
     {"largest-fetch-is-slow", 'F', 0, REPEATS, 0, .least_pages = LARGEST},
 };
 
@@ -265,13 +276,45 @@ static int times_before(char letter, const struct part parts[PARTS])
     return f->deed == REPEATS ? OFTEN : 0;
 }
 
+#define LENT                                                                                                                             \
+    uint8_t *work_pages, size_t work_pages_length, uint8_t *stable_pages, size_t stable_pages_length, uint8_t *work_log,                  \
+        size_t work_log_length, uint8_t *stable_log, size_t stable_log_length, uint8_t *desk, size_t desk_given, uint8_t *values,         \
+        size_t values_length
+
+uint32_t right_fetch(LENT, uint32_t batch, uint32_t key);
+
+/* What a fetch on these parts answers, which changes none of them. */
+static uint32_t fetched(const struct part p[PARTS], uint32_t batch, uint32_t key)
+{
+    uint8_t values[8];
+    return right_fetch(p[0].bytes, p[0].length, p[1].bytes, p[1].length, p[2].bytes, p[2].length, p[3].bytes, p[3].length, p[4].bytes,
+        p[4].length, values, sizeof values, batch, key);
+}
+
+static int puts_back_0(const struct part *log)
+{
+    for (size_t at = 0; at < log->length && log->bytes[at] >> 4 != 0; at += RECORD_BYTES)
+        if (log->bytes[at] >> 4 == UNDO_DELETE && number_at(log->bytes + at + 20) == 0)
+            return 1;
+    return 0;
+}
+
+/* By the numbers that the call was given: the batch is the first, the key the second. */
+static int key_is(const struct fault *f, const struct part parts[PARTS], const uint32_t numbers[])
+{
+    if (f->key == KEY_0_PUT_BACK)
+        return puts_back_0(&parts[WORK_LOG]);
+    return f->key == ANY_KEY || (numbers[2] == 0 && (f->key == KEY_0 || fetched(parts, numbers[1], 0) == f->with));
+}
+
 /* What the wrong call returns where the right one has returned `reason` and left these parts. */
-static uint32_t spoiled(char letter, uint32_t reason, const struct part parts[PARTS])
+static uint32_t spoiled(char letter, uint32_t reason, const struct part parts[PARTS], const uint32_t numbers[])
 {
     const struct fault *f = fault();
     if (shares(letter, &parts[WORK_PAGES]))
         memcpy(parts[WORK_PAGES].bytes, shared, parts[WORK_PAGES].length);
-    if (!concerns(f, letter, parts) || f->when != reason || !room_is(f, parts) || !last_is(f, parts))
+    if (!concerns(f, letter, parts) || f->when != reason || !room_is(f, parts) || !last_is(f, parts)
+        || !key_is(f, parts, numbers))
         return reason;
     if (f->deed == ANSWERS)
         return f->with;
@@ -292,11 +335,6 @@ static uint32_t spoiled(char letter, uint32_t reason, const struct part parts[PA
     return reason;
 }
 
-#define LENT                                                                                                                             \
-    uint8_t *work_pages, size_t work_pages_length, uint8_t *stable_pages, size_t stable_pages_length, uint8_t *work_log,                  \
-        size_t work_log_length, uint8_t *stable_log, size_t stable_log_length, uint8_t *desk, size_t desk_given, uint8_t *values,         \
-        size_t values_length
-
 #define PASSED(letter)                                                                                                                   \
     pages_for(letter, &parts[WORK_PAGES]), work_pages_length, stable_pages, stable_pages_length, work_log, work_log_length, stable_log,   \
         stable_log_length, desk, desk_length(letter, desk_given), values, values_length
@@ -307,9 +345,10 @@ static uint32_t spoiled(char letter, uint32_t reason, const struct part parts[PA
     {                                                                                                                                    \
         const struct part parts[PARTS] = {{work_pages, work_pages_length}, {stable_pages, stable_pages_length},                          \
             {work_log, work_log_length}, {stable_log, stable_log_length}, {desk, desk_given}, {values, values_length}};                   \
+        const uint32_t numbers[] = {0 given, 0, 0};                                                                                      \
         for (int times = times_before(letter, parts); times > 0; times--)                                                                \
             right_##name(PASSED(letter) given);                                                                                          \
-        return spoiled(letter, right_##name(PASSED(letter) given), parts);                                                               \
+        return spoiled(letter, right_##name(PASSED(letter) given), parts, numbers);                                                      \
     }
 
 #define NONE

@@ -1,16 +1,18 @@
--- Refusals 1, 2 and 11, which come before every other.
-use mathlib.Core.Path.{_≡_, refl, ap, sym, _∙_}
+-- Refusals 1, 2, 7 and 11, which come before every other.
+use mathlib.Core.Path.{_≡_, refl, ap, sym, _∙_, subst}
+use mathlib.Core.Logic.{_≢_}
 use Prim.Native.Nat.{ℕ, _/_, _≤_, _<_}
 use native.Mathlib.Omega.{arith}
-use mathlib.Core.Bool.{true, false}
+use mathlib.Core.Bool.{Bool, true, false}
 use mathlib.Core.Option.{Option, none, some}
 use mathlib.Core.List.{List}
 use lib.ListN.{length}
-use Rattle.def_base.specs.Tests.{le-true, le-false, none-some, some-inj}
+use lib.Dec.{eqb}
+use Rattle.def_base.specs.Tests.{pick, le-true, le-false, neq-false, none-some, some-inj}
 use Rattle.def_layout.specs.declared.Desk.{Desk}
 use Rattle.def_layout.specs.Desks.{empty-desk}
 use Rattle.def_model.specs.declared.Refusal.{Refusal}
-use Rattle.def_model.specs.declared.Refusal.the-variants.{PageNumber, Unsound, Lengths}
+use Rattle.def_model.specs.declared.Refusal.the-variants.{PageNumber, ZeroKey, Unsound, Lengths}
 use Rattle.def_model.specs.declared.Answer.the-variants.{Done, Refused}
 use Rattle.def_model.specs.Answers.{first-broken}
 use Rattle.def_model.specs.Areas.{Areas}
@@ -25,18 +27,21 @@ use Rattle.call_reply.specs.declared.Reply.{Reply}
 use Rattle.call_reply.specs.Replies.{Replies, lengths-refused, left-alone}
 use Rattle.call_slides.specs.Checked.{checks, refused-first}
 
--- The page that a call on a sound register names: page 0, which every register has, where it names none.
+-- The page that a call names which 11 may refuse: page 0, which every register has, where it names none. An insert of key 0 is refused before.
 abbrev pub names : Call → Option ℕ
 names format = none
 names restart = none
 names begin = some 0
 names (fetch b k) = some 0
 names (next b k) = some 0
-names (insert b k v) = some 0
+names (insert b k v) = pick (eqb k 0) none (some 0)
 names (delete b k) = some 0
 names (commit b) = some 0
 names (abort b) = some 0
 names (write-out p) = some p
+
+pub insert-names : (b k v : ℕ) → k ≢ 0 → names (insert b k v) ≡ some 0
+insert-names b k v nz = rw (neq-false nz)
 
 -- What such a call has first: what it leaves of the desk, the page's number, and sound.
 record First (a : Areas) (d : Desk) (p : ℕ) (c : Call) : Type 0 where
@@ -56,7 +61,11 @@ module _ (a : Areas) (d : Desk) (p : ℕ) where
   first begin e = of begin e refl (λ bad. rw bad)
   first (fetch b k) e = of (fetch b k) e refl (λ bad. rw bad)
   first (next b k) e = of (next b k) e refl (λ bad. rw bad)
-  first (insert b k v) e = of (insert b k v) e refl (λ bad. rw bad)
+  first (insert b k v) e = go (eqb k 0) refl e
+    where
+      go : (z : Bool) → eqb k 0 ≡ z → pick z none (some 0) ≡ some p → First a d p (insert b k v)
+      go true t e = none-some e
+      go false t e = of (insert b k v) e refl (λ bad. rw (t, bad))
   first (delete b k) e = of (delete b k) e refl (λ bad. rw bad)
   first (commit b) e = of (commit b) e refl (λ bad. rw bad)
   first (abort b) e = of (abort b) e refl (λ bad. rw bad)
@@ -94,6 +103,22 @@ module _ (wp sp wl sl : List ℕ) (d : Desk) (p budget : ℕ) (r : Reply) (c : C
 
     pub by-11 : p < length wp / 128 → sound (read-areas l) d ≡ false → r .answer ≡ Refused Unsound → r .desk ≡ d → Replies c l d budget r l
     by-11 h bad = broken Unsound (firsts .unsound (omega (arith, count)) bad)
+
+-- AN INSERT OF KEY 0.
+module _ (wp sp wl sl : List ℕ) (d : Desk) (r : Reply) (b v budget : ℕ) where
+  abbrev areas : Lent
+  areas = lent wp sp wl sl
+
+  pub zero-1 : lengths-ok areas ≡ false → (r .answer ≡ Refused Lengths) × (r .desk ≡ d) → Replies (insert b 0 v) areas d budget r areas
+  unfolding refused-desk
+  zero-1 e h = lengths-refused (insert b 0 v) areas d budget r e (h .0) (h .1)
+
+  pub zero-7 : lengths-ok areas ≡ true → (r .answer ≡ Refused ZeroKey) × (r .desk ≡ d) → Replies (insert b 0 v) areas d budget r areas
+  unfolding first-broken insert-checks
+  zero-7 lens h = left-alone (insert b 0 v) wp sp wl sl d lens (Refused ZeroKey) budget r (refused-first (read-areas areas) d (insert b 0 v) ZeroKey refl) (h .0) (h .1)
+
+  pub zero-as : (k : ℕ) → k ≡ 0 → Replies (insert b 0 v) areas d budget r areas → Replies (insert b k v) areas d budget r areas
+  zero-as k e x = subst (λ (z : ℕ). Replies (insert b z v) areas d budget r areas) (sym e) x
 
 -- FORMAT.
 pub format-0 : (l after : Lent) (d : Desk) (budget : ℕ) (r : Reply) → lengths-ok l ≡ true → Formatted budget l after → r .answer ≡ Done → r .desk ≡ empty-desk → Replies format l d budget r after

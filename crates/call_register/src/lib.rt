@@ -117,6 +117,16 @@ pub fn next(wp: &[u8], sp: &[u8], wl: &[u8], sl: &[u8], d: Desk, b: u32, k: u32)
     next_in(wp, wl, e.pages, e.slots, d, b, k)
 }
 
+// Refusals 1 and 7: key 0 is refused whatever the areas hold.
+fn refuse_zero(wp: &[u8], sp: &[u8], wl: &[u8], sl: &[u8], d: Desk) -> Reply
+    ensures { λ r. ⌜ ((b v budget : ℕ) → Replies (calls.insert b 0 v) (at-entry wp sp wl sl) d budget r (at-entry wp sp wl sl)) ⌝ }
+{
+    if !lengths_ok(wp, sp, wl, sl) {
+        return refused(Refusal::Lengths, d);
+    }
+    refused(Refusal::ZeroKey, d)
+}
+
 // A slide is filed.
 pub fn insert(
     wp: &mut [u8],
@@ -130,6 +140,9 @@ pub fn insert(
 ) -> Reply
     ensures { λ r. ⌜ ((budget : ℕ) → Replies (calls.insert b k v) (at-entry wp sp wl sl) d budget r (at-exit wp sp wl sl)) ⌝ }
 {
+    if k == 0 {
+        return refuse_zero(wp, sp, wl, sl, d);
+    }
     let e = enter(wp, sp, wl, sl, d, 0);
     if !e.ok {
         let why = e.why;

@@ -1,12 +1,13 @@
 -- Insert and delete: their checks, and reply by reply.
 use mathlib.Core.Path.{_≡_, refl, ap, sym, _∙_, subst}
+use mathlib.Core.Logic.{_≢_}
 use Prim.Native.Nat.{ℕ, _+_, _<_, _≤_}
 use native.Mathlib.Omega.{arith}
 use mathlib.Core.Bool.{Bool, true, false, not}
 use mathlib.Core.Option.{Option, none, some}
 use mathlib.Core.List.{List, [], _∷_}
 use lib.ListN.{set}
-use Rattle.def_base.specs.Tests.{clash}
+use Rattle.def_base.specs.Tests.{clash, neq-false}
 use Rattle.def_layout.specs.declared.Desk.{Desk}
 use Rattle.def_layout.specs.Desks.{row-at}
 use Rattle.def_layout.specs.Entries.{top}
@@ -22,7 +23,7 @@ use Rattle.def_model.specs.Pending.{held}
 use Rattle.def_model.specs.Batches.{find-batch, unmarked}
 use Rattle.def_model.specs.Update.{put-record, remove-record}
 use Rattle.def_model.specs.Sound.{work-pages, work-log, work-slots, work-open, update-has-slots, update-has-pages}
-use Rattle.def_model.specs.Calls.{run-of, value-or, is-unsound, no-live-batch, held-change, no-slots, no-pages, insert-checks, delete-checks}
+use Rattle.def_model.specs.Calls.{run-of, value-or, is-unsound, no-live-batch, held-change, no-slots, no-pages, zero-key, insert-checks, delete-checks}
 use Rattle.def_model.specs.OnBytes.{Lent, insert, delete, outcome, read-areas}
 use Rattle.sound_parts.specs.Reserves.{update-slots-by, update-pages-by}
 use Rattle.area_lengths.specs.Lent.{lent}
@@ -44,6 +45,11 @@ use Rattle.call_slides.specs.Begin.{update-slots, update-pages}
 -- The checks of an insert and of a delete, which differ in the key's.
 unfoldable pub update-checks : ℕ → ℕ → Bool → Refusal → Areas → Desk → List Check
 update-checks b k wrong says a d = is-unsound a d ∷ no-live-batch b a ∷ held-change b k a ∷ check wrong says ∷ no-slots a ∷ no-pages a ∷ []
+
+-- A check that is not broken is passed over.
+skipped : (c : Check) (cs : List Check) → c .broken ≡ false → first-broken (c ∷ cs) ≡ first-broken cs
+unfolding first-broken
+skipped c cs e = rw e
 
 -- What an update that no check refuses may rely on, its batch's row being at place i.
 pub record Free (d : Desk) (l : Lent) (b k : ℕ) (wrong : Bool) (says : Refusal) (i : ℕ) : Type 0 where
@@ -121,9 +127,10 @@ module _ {n m : ℕ} {wp sp wl sl : List ℕ} {d : Desk} {st : Standing} (g : Gi
   found-none none e = refl
   found-none (some v) e = clash e
 
-  as-insert : (wrong : Bool) (o : Option Refusal) → wrong ≡ found value → first-broken (update-checks b k wrong Present (areas g) d) ≡ o → first-broken (insert-checks b k (areas g) d) ≡ o
+  as-insert : (wrong : Bool) (o : Option Refusal) → k ≢ 0 → wrong ≡ found value → first-broken (update-checks b k wrong Present (areas g) d) ≡ o → first-broken (insert-checks b k (areas g) d) ≡ o
   unfolding update-checks insert-checks
-  as-insert wrong o w e = subst (λ (x : Bool). first-broken (update-checks b k x Present (areas g) d) ≡ o) w e
+  as-insert wrong o nz w e =
+      skipped (zero-key k) (update-checks b k (found value) Present (areas g) d) (neq-false nz) ∙ subst (λ (x : Bool). first-broken (update-checks b k x Present (areas g) d) ≡ o) w e
 
   as-delete : (wrong : Bool) (o : Option Refusal) → wrong ≡ not (found value) → first-broken (update-checks b k wrong Absent (areas g) d) ≡ o → first-broken (delete-checks b k (areas g) d) ≡ o
   unfolding update-checks delete-checks
@@ -133,8 +140,8 @@ module _ {n m : ℕ} {wp sp wl sl : List ℕ} {d : Desk} {st : Standing} (g : Gi
   can = lendable (lent wp sp wl sl) (g .lengths)
 
   module _ (wrong : Bool) (u : Bar) where
-    pub insert-barred : (v : ℕ) → wrong ≡ found value → Bars d (lent wp sp wl sl) b k wrong Present u → u .ok ≡ false → Answers g (insert b k v) (Refused (u .why))
-    insert-barred v w h t = refuse g (insert b k v) (u .why) (as-insert wrong (some (u .why)) w (h .refuses t))
+    pub insert-barred : (v : ℕ) → k ≢ 0 → wrong ≡ found value → Bars d (lent wp sp wl sl) b k wrong Present u → u .ok ≡ false → Answers g (insert b k v) (Refused (u .why))
+    insert-barred v nz w h t = refuse g (insert b k v) (u .why) (as-insert wrong (some (u .why)) nz w (h .refuses t))
 
     pub delete-barred : wrong ≡ not (found value) → Bars d (lent wp sp wl sl) b k wrong Absent u → u .ok ≡ false → Answers g (delete b k) (Refused (u .why))
     delete-barred w h t = refuse g (delete b k) (u .why) (as-delete wrong (some (u .why)) w (h .refuses t))
@@ -143,15 +150,15 @@ module _ {n m : ℕ} {wp sp wl sl : List ℕ} {d : Desk} {st : Standing} (g : Gi
 
   module _ {wp′ wl′ : List ℕ} (wrong : Bool) (i budget : ℕ) (t : run.Run) (r : Reply) (kt : k ≤ top) (a : r .answer ≡ Done)
       (de : r .desk ≡ record { rows = set (d .rows) i (record { batch = b; last = t .logged; undo = t .logged; pending = row-at (d .rows) i .pending + 1 }); logged = t .logged; stored = d .stored }) where
-    pub insert-0 : (v : ℕ) → wrong ≡ found value → Free d (lent wp sp wl sl) b k wrong Present i → Shows n m wp′ wl′ t (put-record records.insert b (row-at (d .rows) i .last) k v (run-of (areas g)))
+    pub insert-0 : (v : ℕ) → k ≢ 0 → wrong ≡ found value → Free d (lent wp sp wl sl) b k wrong Present i → Shows n m wp′ wl′ t (put-record records.insert b (row-at (d .rows) i .last) k v (run-of (areas g)))
         → Replies (insert b k v) (lent wp sp wl sl) d budget r (lent wp′ sp wl′ sl)
     unfolding outcome run-of read-areas
-    insert-0 v w f sh =
+    insert-0 v nz w f sh =
         let l = last-is g b i (f .place) (f .low) in
         let z = open-zero g b i (f .place) (f .low) in
         let x = insert-runs (areas g) d (can .few) (can .equal) (can .small) (g .is-sound) b (row-at (d .rows) i .last) k v kt (found-none value (sym w ∙ f .right)) (f .slots) (f .pages) in
         left-run (insert b k v) wp sp wl sl d (g .lengths) Done budget (put-record records.insert b (row-at (d .rows) i .last) k v (run-of (areas g))) r (given-slots g)
-        (insert-goes (areas g) d b k v (as-insert wrong none w (f .none-broken)) ∙ rw (← l)) sh a
+        (insert-goes (areas g) d b k v (as-insert wrong none nz w (f .none-broken)) ∙ rw (← l)) sh a
         (de ∙ sym (insert-desk (run-of (areas g)) d (given-chain g) (g .known .desk) b _ k v i _ (t .logged) (d .stored) (z .0) (z .1) (f .low) refl (x .ready .goes) (sym (sh .logged))))
 
     pub delete-0 : (v : ℕ) → v ≡ value-or value → wrong ≡ not (found value) → Free d (lent wp sp wl sl) b k wrong Absent i

@@ -23,6 +23,7 @@ use tree_remove::remove_record;
 use tree_write::Run;
 use tree_write::note;
 ghost use mathlib.Core.Path.{_≡_};
+ghost use mathlib.Core.Logic.{_≢_};
 ghost use mathlib.Core.Bool.{false};
 ghost use mathlib.Core.List.{List};
 ghost use Prim.Native.Nat.{ℕ, _+_, _≤_, _<_};
@@ -246,7 +247,7 @@ pub fn insert_in(
     k: u32,
     v: u32,
 ) -> Reply
-    requires { ⌜ HasAreas n m (now wp) (now wl) × (d .logged ≤ m) × (st .pending ≤ most-slots) × LowRows (d .rows) ⌝ }
+    requires { ⌜ HasAreas n m (now wp) (now wl) × (d .logged ≤ m) × (st .pending ≤ most-slots) × LowRows (d .rows) × (k ≢ 0) ⌝ }
     ensures { λ r.
         ⌜ ((budget : ℕ) (sp sl : List ℕ) → Given n m (now (wp .entry)) sp (now (wl .entry)) sl d st
         → Replies (calls.insert b k v) (lent (now (wp .entry)) sp (now (wl .entry)) sl) d budget r (lent (now (wp .exit)) sp (now (wl .exit)) sl)) ⌝ }

@@ -97,6 +97,13 @@ and-true false b e = clash (sym e)
 pub and-both : {a b : Bool} → a ≡ true → b ≡ true → a && b ≡ true
 and-both {a} {b} p q = rw (p, q)
 
+pub or-left : {a : Bool} (b : Bool) → a ≡ true → a || b ≡ true
+or-left {a} b e = rw e
+
+pub or-right : (a : Bool) {b : Bool} → b ≡ true → a || b ≡ true
+or-right true e = refl
+or-right false e = e
+
 -- Whether a test holds of every element of a list, and of some.
 unfoldable pub every {ℓ} : {A : Type ℓ} → (A → Bool) → List A → Bool
 every f [] = true

@@ -14,7 +14,7 @@ use Rattle.def_layout.specs.PageBytes.{page}
 use Rattle.def_layout.specs.Records.{begin, insert, delete, commit, batch-row}
 use Rattle.def_layout.specs.RecordBytes.{empty}
 use Rattle.def_model.specs.declared.Refusal.{Refusal}
-use Rattle.def_model.specs.declared.Refusal.the-variants.{PageNumber, Unsound, NoBatch, EightOpen, Held, Present, Absent, SlotsShort, PagesShort, AbortStopped}
+use Rattle.def_model.specs.declared.Refusal.the-variants.{PageNumber, ZeroKey, Unsound, NoBatch, EightOpen, Held, Present, Absent, SlotsShort, PagesShort, AbortStopped}
 use Rattle.def_model.specs.declared.Answer.{Answer}
 use Rattle.def_model.specs.declared.Answer.the-variants.{Done, Number, Pair}
 use Rattle.def_model.specs.Fit.{found}
@@ -170,9 +170,13 @@ last-of (some b) = b .last
 abbrev pub last-record : ℕ → Areas → ℕ
 last-record b a = last-of (find-batch b (work-open a))
 
+-- 02, U1: "Insert is to refuse key 0 .. 7 .. checked after 2 and before 11". Of no other call, and of nothing that a log or page holds.
+abbrev pub zero-key : ℕ → Check
+zero-key k = check (eqb k 0) ZeroKey
+
 unfoldable pub insert-checks : ℕ → ℕ → Areas → Desk → List Check
 insert-checks b k a d =
-    is-unsound a d ∷ no-live-batch b a ∷ held-change b k a ∷ check (present k a) Present ∷ no-slots a ∷ no-pages a ∷ []
+    zero-key k ∷ is-unsound a d ∷ no-live-batch b a ∷ held-change b k a ∷ check (present k a) Present ∷ no-slots a ∷ no-pages a ∷ []
 
 unfoldable pub insert-by : Option Refusal → ℕ → ℕ → ℕ → Areas → Desk → Outcome
 insert-by (some r) b k v a d = refuse r a d

@@ -1,6 +1,6 @@
 // What a call answers. The numbers of document 01 for each case are in specs/Answers.antt.
 
-// 01, "Reasons that come from the input" and "Reasons that come from the state".
+// 01, "Reasons that come from the input" and "Reasons that come from the state"; and those that 02 adds.
 pub enum Refusal {
     Lengths,
     PageNumber,
@@ -8,6 +8,7 @@ pub enum Refusal {
     Log,
     Redo,
     Rules,
+    ZeroKey,
     Unsound,
     NoBatch,
     EightOpen,

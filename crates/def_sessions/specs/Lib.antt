@@ -7,4 +7,6 @@ pub mod Damage
 pub mod ClaimDamage
 pub mod Descents
 pub mod ClaimDescents
+pub mod Field
+pub mod ClaimField
 pub mod OnBytes

@@ -178,6 +178,12 @@ each-refusal =
     ∷ done ∷ replicate 8 (refused 11) ++ refused 2 ∷ (0 ∷ 1 ∷ 1 ∷ []) ∷ [])
     []
 
+-- 02, U1: 7 for key 0 in any batch, open or not; no other key, and no other call, is refused for it.
+abbrev pub zero-key : Session
+zero-key =
+    usual (ask begin ∷ ask (insert 1 0 5) ∷ ask (insert 9 0 5) ∷ ask (insert 1 1 5) ∷ ask (fetch 1 0) ∷ ask (next 1 0) ∷ ask (delete 1 0) ∷ [])
+    (answers 1 ∷ refused 7 ∷ refused 7 ∷ done ∷ refused 16 ∷ (0 ∷ 1 ∷ 5 ∷ []) ∷ refused 16 ∷ []) (slides (entry 1 5 ∷ []) ∷ [])
+
 -- Two cases are open at a cut, with updates in turns: "undoes always the largest log number due, with an 8 right after a batch's last".
 abbrev pub two-open : Session
 two-open =
@@ -234,7 +240,7 @@ abbrev pub rows : List Session
 rows =
     a-split ∷ a-raise ∷ a-merge ∷ a-held-key ∷ a-ninth ∷ enough-slots ∷ too-few-slots ∷ too-few-pages ∷ a-cut
     ∷ a-lower ∷ shared-left ∷ shared-right ∷ an-abort ∷ a-redo ∷ unstored-commit ∷ stored-commit ∷ console
-    ∷ next-held ∷ next-held-between ∷ each-refusal ∷ two-open ∷ three-open ∷ redo-of-changes ∷ two-inserts 256 100 done ∷ two-inserts 256 99 (refused 17) ∷ two-inserts 23 1024 done
+    ∷ next-held ∷ next-held-between ∷ each-refusal ∷ zero-key ∷ two-open ∷ three-open ∷ redo-of-changes ∷ two-inserts 256 100 done ∷ two-inserts 256 99 (refused 17) ∷ two-inserts 23 1024 done
     ∷ two-inserts 22 1024 (refused 18) ∷ begin-fits ∷ begin-short ∷ []
 
 abbrev pub table : ℕ → List Session

@@ -15,6 +15,7 @@ fn refusal_number(r: Refusal) -> u32
         Refusal::Log => 4,
         Refusal::Redo => 5,
         Refusal::Rules => 6,
+        Refusal::ZeroKey => 7,
         Refusal::Unsound => 11,
         Refusal::NoBatch => 12,
         Refusal::EightOpen => 13,

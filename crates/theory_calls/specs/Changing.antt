@@ -23,7 +23,7 @@ use Rattle.def_model.specs.Answers.{passed, check, first-broken}
 use Rattle.def_model.specs.Batches.{Line, Batch, change-batch, find-batch, open-batches, unmarked, pending-count, tell, written}
 use Rattle.def_model.specs.Pending.{held}
 use Rattle.def_model.specs.Sound.{sound, work-pages, work-log, work-slots, work-open, reserve, update-has-slots, update-has-pages}
-use Rattle.def_model.specs.Calls.{run-of, kept-run, value-or, present, last-of, insert-checks, insert-by, insert-slide, delete-checks, delete-by, delete-slide}
+use Rattle.def_model.specs.Calls.{run-of, kept-run, value-or, present, last-of, zero-key, insert-checks, insert-by, insert-slide, delete-checks, delete-by, delete-slide}
 use Rattle.def_model.specs.OnBytes.{insert, delete, outcome}
 use Rattle.def_recovery.specs.Book.{file, strike, book-call, write-line}
 use Rattle.theory_tree.specs.Step.Steps.{by-insert, by-delete}
@@ -118,7 +118,8 @@ module _ (o : Origin) (n m : ℕ) (most : n ≤ map-bits) (stable log : List Rec
       go : (z : Option Refusal) → first-broken (insert-checks b k a d) ≡ z → passed (insert-by z b k v a d .answer) ≡ true → Passes o n m stable log (insert b k v) a d
       go (some r) e p = clash (sym p)
       go none e p =
-          let (snd, e₁) = kept-check (sound a d) Unsound _ e in
+          let (nz, e₀) = none-broken (zero-key k) _ e in
+          let (snd, e₁) = kept-check (sound a d) Unsound _ e₀ in
           let (un, e₂) = kept-check (unmarked (find-batch b (work-open a))) NoBatch _ e₁ in
           let (hd, e₃) = none-broken (check (held b k (work-open a)) Held) _ e₂ in
           let (pr, e₄) = none-broken (check (present k a) Present) _ e₃ in

@@ -14,10 +14,12 @@ use Rattle.def_model.specs.TreeRules.{leaf-records}
 use Rattle.def_model.specs.Update.{Run, emit, put-record, remove-record}
 use Rattle.def_model.specs.Batches.{Line, Batch, undone, mark-set, rest-of, tell, open-batches, find-batch, change-batch, drop-batch, next-undo}
 use Rattle.def_model.specs.Undo.{undo-by, undo-line, undo-lines, end-batch, abort-run}
+use Rattle.theory_tree.specs.Order.Sorted.{look-insert}
 use Rattle.theory_tree.specs.Step.Steps.{by-undo-insert, by-undo-delete}
+use Rattle.theory_tree.specs.Step.Leaves.{records-after}
 use Rattle.theory_update.specs.Run.Keeps.{Stuck, stuck-emit, stuck-by, stuck-stop, keep-find-add, keep-find-remove}
 use Rattle.theory_ledger.specs.Runs.{DoesBy}
-use Rattle.theory_ledger.specs.Settles.{newest-does}
+use Rattle.theory_ledger.specs.Settles.{undo-apply-by, undo-apply, newest-does}
 use Rattle.theory_ledger.specs.Small.{SmallLines, found-small, small-first}
 use Rattle.theory_ledger.specs.Batching.{find-change, drop-change}
 use Rattle.theory_history.specs.Core.{Core, told-due}
@@ -65,33 +67,42 @@ went-on f h s z = go (ℕ-discrete (s .stop) 0)
 
 -- ---- one line
 
--- Number m is the undo's record; the batch's newest line is gone.
-pub record Undone (s : Run) (sl : List Entry) (t : Run) (n : ℕ) : Type 0 where
+-- Number m is the undo's record; the batch's newest line is gone, and taken back: what was inserted is out, what was deleted is in again.
+pub record Undone (s : Run) (sl : List Entry) (t : Run) (n : ℕ) (l : Line) : Type 0 where
   pub trail : Trail s sl t sl
   pub number : ℕ
   pub due : t .due ≡ suc number
   pub opens : open-batches (t .log) ≡ change-batch n (undone number) (open-batches (s .log))
+  pub leaves : leaf-records (t .pages) ≡ undo-apply l (leaf-records (s .pages))
 
 module _ (n : ℕ) (most : n ≤ map-bits) where
   line-key : (s : Run) (sl : List Entry) (number : ℕ) (b : Batch) (l : Line) (ls : List Line) → Core n s sl → find-batch number (open-batches (s .log)) ≡ some b → b .lines ≡ l ∷ ls → l .key ≤ top
   line-key s sl number b l ls c e w = small-first l ls (subst SmallLines w (found-small number (open-batches (s .log)) b (c .small) e))
 
   undone-by : (s : Run) (sl : List Entry) (number : ℕ) (b : Batch) (l : Line) (ls : List Line) → Core n s sl → find-batch number (open-batches (s .log)) ≡ some b → b .lines ≡ l ∷ ls
-      → (a : Bool) → l .adds ≡ a → (m : Option ℕ) → DoesBy a (l .value) m (look (l .key) (leaf-records (s .pages))) → undo-by a number (next-undo ls) l s .stop ≡ 0 → Undone s sl (undo-by a number (next-undo ls) l s) number
-  unfolding undo-by tell DoesBy
+      → (a : Bool) → l .adds ≡ a → (m : Option ℕ) → DoesBy a (l .value) m (look (l .key) (leaf-records (s .pages))) → undo-by a number (next-undo ls) l s .stop ≡ 0 → Undone s sl (undo-by a number (next-undo ls) l s) number l
+  unfolding undo-by tell DoesBy undo-apply-by records-after
   undone-by s sl number b l ls c e w true q m d z =
       let (page, u) = remove-updated n most undo-insert number (next-undo ls) (l .key) 0 (l .value) s sl c by-undo-insert (line-key s sl number b l ls c e w) (d .1) (λ p. undo-insert-data n s sl c number b e l ls w p q) z in
-      record { trail = u .trail; number = u .number; due = u .due; opens = u .opens }
+      record { trail = u .trail; number = u .number; due = u .due; opens = u .opens; leaves = u .leaves ∙ ap (λ z. undo-apply-by z (l .key) (l .value) (leaf-records (s .pages))) (sym q) }
   undone-by s sl number b l ls c e w false q m d z =
       let (page, u) = put-updated n most undo-delete number (next-undo ls) (l .key) (l .value) s sl c by-undo-delete (line-key s sl number b l ls c e w) (d .1) (λ p. undo-delete-data n s sl c number b e l ls w p q) z in
-      record { trail = u .trail; number = u .number; due = u .due; opens = u .opens }
+      record { trail = u .trail; number = u .number; due = u .due; opens = u .opens; leaves = u .leaves ∙ ap (λ z. undo-apply-by z (l .key) (l .value) (leaf-records (s .pages))) (sym q) }
 
   pub line-undone : (s : Run) (sl : List Entry) (number : ℕ) (b : Batch) (l : Line) (ls : List Line) → Core n s sl → find-batch number (open-batches (s .log)) ≡ some b → b .lines ≡ l ∷ ls
-      → undo-line number (next-undo ls) l s .stop ≡ 0 → Undone s sl (undo-line number (next-undo ls) l s) number
+      → undo-line number (next-undo ls) l s .stop ≡ 0 → Undone s sl (undo-line number (next-undo ls) l s) number l
   unfolding undo-line
   line-undone s sl number b l ls c e w z =
       let (m, d) = newest-does number l ls sl (leaf-records (s .pages)) (open-batches (s .log)) b e w (c .settles) in
       undone-by s sl number b l ls c e w (l .adds) refl m d z
+
+  -- 02, U1: "undoing their deletion puts them back", of slides under any key.
+  pub deletion-undone : (s : Run) (sl : List Entry) (number : ℕ) (b : Batch) (l : Line) (ls : List Line) → Core n s sl → find-batch number (open-batches (s .log)) ≡ some b → b .lines ≡ l ∷ ls
+      → l .adds ≡ false → undo-line number (next-undo ls) l s .stop ≡ 0 → look (l .key) (leaf-records (undo-line number (next-undo ls) l s .pages)) ≡ some (l .value)
+  unfolding undo-apply-by
+  deletion-undone s sl number b l ls c e w q z =
+      let u = line-undone s sl number b l ls c e w z in
+      ap (look (l .key)) (u .leaves ∙ ap (λ a. undo-apply-by a (l .key) (l .value) (leaf-records (s .pages))) q) ∙ look-insert (l .key) (l .value) (leaf-records (s .pages))
 
   -- ---- a batch's lines
 

@@ -1,12 +1,12 @@
 -- EVERY STEP KEEPS ITS RECORD'S ROW (refusal 4).
 use Prim.Native.Nat.{ℕ, suc, _≤_, _<_}
 use mathlib.Core.Path.{_≡_, refl, sym, ap, _∙_, subst}
-use mathlib.Core.Bool.{Bool, true, false, _||_}
+use mathlib.Core.Bool.{Bool, true, false}
 use mathlib.Core.List.{List, [], _∷_, _++_, append-assoc, append-nil}
 use native.Mathlib.Omega.{arith}
 use lib.ListN.{length, length-append}
 use lib.Dec.{leb, ltb, eqb·suc-zero}
-use Rattle.def_base.specs.Tests.{Case, yes!, no!, case, lt-true, eq-true, le-true, and-both, every}
+use Rattle.def_base.specs.Tests.{Case, yes!, no!, case, lt-true, eq-true, le-true, and-both, or-left, or-right, every}
 use Rattle.def_layout.specs.declared.Entry.{Entry}
 use Rattle.def_layout.specs.Entries.{top}
 use Rattle.def_layout.specs.Sizes.{room}
@@ -58,13 +58,6 @@ every-above : (key from : ℕ) (es : List Entry) → key < from → Rising from 
 unfolding every Rising
 every-above key from [] h r = refl
 every-above key from (e ∷ es) h r = let a = r .0 in and-both (lt-true key (e .key) (omega arith)) (every-above key (suc (e .key)) es (omega arith) (r .1))
-
-or-left : {a : Bool} (b : Bool) → a ≡ true → a || b ≡ true
-or-left {a} b e = rw e
-
-or-right : (a : Bool) {b : Bool} → b ≡ true → a || b ≡ true
-or-right true e = refl
-or-right false e = e
 
 -- What a redistribution moves has room in a record, and lies on one side of its key.
 pub record Moves (key : ℕ) (moved : List Entry) : Type 0 where

@@ -4,3 +4,4 @@ pub mod Order
 pub mod Left
 pub mod Lossless
 pub mod OnBytes
+pub mod ZeroKey

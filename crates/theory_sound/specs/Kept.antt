@@ -22,7 +22,7 @@ use Rattle.def_model.specs.Pending.{held}
 use Rattle.def_model.specs.Lookup.{fetched}
 use Rattle.def_model.specs.Update.{emit, put-record, remove-record}
 use Rattle.def_model.specs.Sound.{sound, work-pages, work-log, work-slots, work-open, update-has-slots, update-has-pages, begin-has-slots}
-use Rattle.def_model.specs.Calls.{run-of, kept-run, stored-run, present, value-or, last-of, begin-checks, begin-by, begin-batch, fetch-checks, fetch-by, fetch-slide, next-checks, next-slide-by, next-slide, insert-checks, insert-by, insert-slide, delete-checks, delete-by, delete-slide, commit-checks, commit-by, commit-batch, aborted, abort-checks, abort-by, abort-batch, write-out-checks, write-out-by, write-out-page}
+use Rattle.def_model.specs.Calls.{run-of, kept-run, stored-run, present, value-or, last-of, zero-key, begin-checks, begin-by, begin-batch, fetch-checks, fetch-by, fetch-slide, next-checks, next-slide-by, next-slide, insert-checks, insert-by, insert-slide, delete-checks, delete-by, delete-slide, commit-checks, commit-by, commit-batch, aborted, abort-checks, abort-by, abort-batch, write-out-checks, write-out-by, write-out-page}
 use Rattle.def_model.specs.OnBytes.{Call, format, begin, restart, fetch, next, insert, delete, commit, abort, write-out, outcome}
 use Rattle.def_recovery.specs.Events.{is-format, is-restart, fits-32, of-32-bits}
 use Rattle.theory_ledger.specs.Small.{Small}
@@ -76,7 +76,8 @@ module _ (a : Areas) (d : Desk) (l : Lendable a) (s : sound a d ≡ true) where
       go : (o : Option Refusal) → first-broken (insert-checks b k a d) ≡ o → passed (insert-by o b k v a d .answer) ≡ true → SoundAfter a d (insert-by o b k v a d)
       go (some r) e p = clash (sym p)
       go none e p =
-          let (w, e₁) = kept-check (sound a d) Unsound _ e in
+          let (nz, e₀) = none-broken (zero-key k) _ e in
+          let (w, e₁) = kept-check (sound a d) Unsound _ e₀ in
           let (un, e₂) = kept-check (unmarked (find-batch b (work-open a))) NoBatch _ e₁ in
           let (hd, e₃) = none-broken (check (held b k (work-open a)) Held) _ e₂ in
           let (pr, e₄) = none-broken (check (present k a) Present) _ e₃ in

@@ -2,19 +2,21 @@
 -- key (`leaves-rise`); 01's rules on held keys and free places come first, in number order.
 use Prim.Native.Nat.{ℕ, suc, _+_, _-_, _*_, _≤_, _<_}
 use mathlib.Core.Path.{_≡_, refl, ap, _∙_}
+use mathlib.Core.Logic.{_≢_}
 use mathlib.Core.Bool.{Bool, true, false, not}
 use mathlib.Core.Option.{Option, none, some}
 use mathlib.Core.List.{List, [], _∷_}
 use native.Mathlib.Omega.{arith}
 use lib.ListN.{length, length-map}
-use Rattle.def_base.specs.Tests.{true-le}
+use lib.Dec.{eqb}
+use Rattle.def_base.specs.Tests.{true-le, neq-false}
 use Rattle.def_layout.specs.declared.Entry.{Entry}
 use Rattle.def_layout.specs.declared.Desk.{Desk}
 use Rattle.def_layout.specs.Entries.{top, look, seek, insert-sorted, remove-key}
 use Rattle.def_layout.specs.Pages.{at, map-bits}
 use Rattle.def_layout.specs.Records
 use Rattle.def_model.specs.declared.Refusal.{Refusal}
-use Rattle.def_model.specs.declared.Refusal.the-variants.{Unsound, NoBatch, Held, Present, Absent, SlotsShort, PagesShort}
+use Rattle.def_model.specs.declared.Refusal.the-variants.{ZeroKey, Unsound, NoBatch, Held, Present, Absent, SlotsShort, PagesShort}
 use Rattle.def_model.specs.declared.Answer.the-variants.{Done, Number, Pair}
 use Rattle.def_model.specs.Areas.{Areas, page-in, pages-of}
 use Rattle.def_model.specs.Answers.{Outcome, Check, check, first-broken, refuse}
@@ -74,9 +76,9 @@ module _ (a : Areas) (d : Desk) (s : sound a d ≡ true) where
   next-asks b k y f h =
       skip-not (sound a d) Unsound _ s ∙ skip (is-none (find-batch b (work-open a))) NoBatch _ (ap is-none f) ∙ skip (held-between b k (next-limit (next-above k (work-pages a))) (work-open a)) Held _ h
 
-  insert-asks : (b k : ℕ) → unmarked (find-batch b (work-open a)) ≡ true → held b k (work-open a) ≡ false → first-broken (insert-checks b k a d) ≡ first-broken (check (found (fetched k (work-pages a))) Present ∷ no-slots a ∷ no-pages a ∷ [])
+  insert-asks : (b k : ℕ) → k ≢ 0 → unmarked (find-batch b (work-open a)) ≡ true → held b k (work-open a) ≡ false → first-broken (insert-checks b k a d) ≡ first-broken (check (found (fetched k (work-pages a))) Present ∷ no-slots a ∷ no-pages a ∷ [])
   unfolding insert-checks
-  insert-asks b k u h = skip-not (sound a d) Unsound _ s ∙ skip-not (unmarked (find-batch b (work-open a))) NoBatch _ u ∙ skip (held b k (work-open a)) Held _ h
+  insert-asks b k nz u h = skip (eqb k 0) ZeroKey _ (neq-false nz) ∙ skip-not (sound a d) Unsound _ s ∙ skip-not (unmarked (find-batch b (work-open a))) NoBatch _ u ∙ skip (held b k (work-open a)) Held _ h
 
   delete-asks : (b k : ℕ) → unmarked (find-batch b (work-open a)) ≡ true → held b k (work-open a) ≡ false → first-broken (delete-checks b k a d) ≡ first-broken (check (not (found (fetched k (work-pages a)))) Absent ∷ no-slots a ∷ no-pages a ∷ [])
   unfolding delete-checks
@@ -131,11 +133,11 @@ module _ (a : Areas) (d : Desk) (s : sound a d ≡ true) where
     run-list = refl
 
     -- A key that is there.
-    pub insert-present : (b k v w : ℕ) → k ≤ top → unmarked (find-batch b (work-open a)) ≡ true → held b k (work-open a) ≡ false → look k (list a) ≡ some w → outcome (insert b k v) a d ≡ refuse Present a d
+    pub insert-present : (b k v w : ℕ) → k ≢ 0 → k ≤ top → unmarked (find-batch b (work-open a)) ≡ true → held b k (work-open a) ≡ false → look k (list a) ≡ some w → outcome (insert b k v) a d ≡ refuse Present a d
     unfolding outcome insert-slide insert-by first-broken found
-    insert-present b k v w kt u h p =
+    insert-present b k v w nz kt u h p =
         ap (λ o. insert-by o b k v a d)
-        (insert-asks b k u h ∙ ap (λ z. first-broken (check (found z) Present ∷ no-slots a ∷ no-pages a ∷ [])) (fetched-is k (work-pages a) tree kt ∙ p))
+        (insert-asks b k nz u h ∙ ap (λ z. first-broken (check (found z) Present ∷ no-slots a ∷ no-pages a ∷ [])) (fetched-is k (work-pages a) tree kt ∙ p))
 
     -- A key that is not.
     pub record Changed (o : Outcome) (es : List Entry) : Type 0 where
@@ -151,13 +153,13 @@ module _ (a : Areas) (d : Desk) (s : sound a d ≡ true) where
     unfolding update-has-pages run-of
     pages-room e = let y = true-le (7 + 7 * suc (pending-count (work-open a))) (length (work-pages a) - used-pages (work-pages a)) e in omega arith
 
-    pub insert-answers : (b k v : ℕ) → k ≤ top → unmarked (find-batch b (work-open a)) ≡ true → held b k (work-open a) ≡ false → look k (list a) ≡ none
+    pub insert-answers : (b k v : ℕ) → k ≢ 0 → k ≤ top → unmarked (find-batch b (work-open a)) ≡ true → held b k (work-open a) ≡ false → look k (list a) ≡ none
         → update-has-slots (work-slots a) (work-log a) (work-open a) ≡ true → update-has-pages (work-pages a) (work-open a) ≡ true → Changed (outcome (insert b k v) a d) (insert-sorted k v (list a))
     unfolding outcome insert-slide insert-by first-broken found kept-run run-side
-    insert-answers b k v kt u h ab p q =
+    insert-answers b k v nz kt u h ab p q =
         let e : outcome (insert b k v) a d ≡ kept-run Done a (put-record Records.insert b (last-of (find-batch b (work-open a))) k v (run-of a)) d
         = ap (λ o. insert-by o b k v a d)
-        (insert-asks b k u h ∙ ap (λ z. first-broken (check (found z) Present ∷ no-slots a ∷ no-pages a ∷ [])) (fetched-is k (work-pages a) tree kt ∙ ab) ∙ places-free p q) in
+        (insert-asks b k nz u h ∙ ap (λ z. first-broken (check (found z) Present ∷ no-slots a ∷ no-pages a ∷ [])) (fetched-is k (work-pages a) tree kt ∙ ab) ∙ places-free p q) in
         let t = put-record Records.insert b (last-of (find-batch b (work-open a))) k v (run-of a) in
         let kp = put-law Records.insert b (last-of (find-batch b (work-open a))) k v (run-of a) ready kt by-insert (ap (look k) run-list ∙ ab) (slots-room p) (pages-room q) in
         record { done = ap (λ o. o .answer) e; leaves = ap (λ o. leaf-records (pages-of (o .work .pages))) e ∙ ap leaf-records (pages-back (t .pages)) ∙ kp .holds ∙ ap (insert-sorted k v) run-list; nothing-stored = ap (λ o. o .stores) e }

@@ -19,17 +19,18 @@ struct Runs {
     calls: usize,
 }
 
-const RUNS: [Runs; 5] = [
+const RUNS: [Runs; 6] = [
     Runs { what: "plain runs, cut after every store", shape: Shape::Plain, seeds: 1..21, calls: 1500 },
     Runs { what: "runs with damage in between", shape: Shape::Damaged, seeds: 1..9, calls: 1500 },
     Runs { what: "runs with eight batches open", shape: Shape::Crowded, seeds: 1..7, calls: 1500 },
     Runs { what: "runs at the largest size", shape: Shape::Largest, seeds: 1..4, calls: 150 },
     Runs { what: "runs where the room just suffices", shape: Shape::Edge, seeds: 1..31, calls: 600 },
+    Runs { what: "runs from images that hold key 0", shape: Shape::Field, seeds: 1..41, calls: 200 },
 ];
 
 type Try = (&'static str, fn() -> damage::Tried);
 
-const TRIES: [Try; 28] = [
+const TRIES: [Try; 29] = [
     ("every bit of a stored image turned", damage::bits_of_the_image),
     ("bits of all areas turned, for the other calls", damage::bits_for_other_calls),
     ("every bit of the desk turned", damage::bits_of_the_desk),
@@ -57,6 +58,7 @@ const TRIES: [Try; 28] = [
     ("exact room in the log", edges::exact_slots),
     ("exact room in the pages", edges::exact_pages),
     ("the largest redo", edges::largest_redo),
+    ("inserts of key 0, and slide 0 from the field", edges::key_0),
     ("two registers in two threads", edges::two_threads),
 ];
 

@@ -1,4 +1,4 @@
-//! What document 01 says of any call's answer, whatever the model says: its refusal is on the call's list, and a refusal
+//! What documents 01 and 02 say of any call's answer, whatever the model says: its refusal is on the call's list, and a refusal
 //! gives zeros and leaves what is written down.
 
 use crate::difference::{Difference, AREAS};
@@ -12,7 +12,7 @@ pub fn reasons(made: Call) -> &'static [u32] {
         Call::Format => &[1],
         Call::Begin => &[1, 11, 13, 17],
         Call::Fetch { .. } | Call::Next { .. } => &[1, 11, 12, 14, 16],
-        Call::Insert { .. } => &[1, 11, 12, 14, 15, 17, 18],
+        Call::Insert { .. } => &[1, 7, 11, 12, 14, 15, 17, 18],
         Call::Delete { .. } => &[1, 11, 12, 14, 16, 17, 18],
         Call::Commit { .. } => &[1, 11, 12],
         Call::Abort { .. } => &[1, 11, 12, 19],

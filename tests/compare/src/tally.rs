@@ -51,7 +51,7 @@ impl Tally {
         self.answers.contains_key(&(letter_of(&made), reason))
     }
 
-    /// The answers of these calls that are on 01's list and were not met.
+    /// The answers of these calls that are on its list and were not met.
     pub fn missed(&self, calls: &[Call]) -> Vec<(char, u32)> {
         let listed = calls.iter().flat_map(|call| {
             let letter = letter_of(call);

@@ -6,7 +6,7 @@ use crate::difference::Difference;
 use crate::images::Images;
 use crate::tally::Tally;
 use reference::bench::{run, Book, Command, Event, Instrument, Random, Run, Shape};
-use reference::calls::{Call, Outcome};
+use reference::calls::{sound, Call, Outcome};
 use reference::Refusal;
 
 /// What was compared.
@@ -65,7 +65,7 @@ impl Course {
     fn new(model: Instrument, book: Option<Book>, seed: u64) -> Course {
         let mut beside = Beside::new();
         beside.loan.set(&model.areas, &model.desk);
-        let left_sound = book.is_some();
+        let left_sound = model.areas.lengths_are_right() && sound(&model.areas, &model.desk).is_some();
         Course { model, beside, images: Images::new(seed), random: Random::new(seed), book, left_sound, cuts: 0 }
     }
 

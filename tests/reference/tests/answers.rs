@@ -4,7 +4,7 @@
 mod common;
 
 use common::each_event;
-use reference::bench::{Event, Instrument};
+use reference::bench::{run, Event, Instrument, Shape};
 use reference::calls::{sound, Answer, Call};
 use reference::Refusal;
 use std::collections::BTreeMap;
@@ -48,6 +48,7 @@ impl List {
         };
         let found = self.slides.get(&key).copied();
         Some(match call {
+            Call::Insert { key: 0, .. } => Err(Refusal::Unread),
             _ if !self.changes.contains_key(&batch) => Err(Refusal::NoBatch),
             _ if self.held(batch, key..=key) => Err(Refusal::Held),
             Call::Fetch { .. } => found.map(Answer::Value).ok_or(Refusal::Absent),
@@ -98,7 +99,7 @@ fn a_sorted_list_of_slides_gives_the_same_answers() {
     let mut compared = 0;
     for seed in 300..308 {
         let mut list = List::default();
-        each_event(seed, 1000, |before, event, after| {
+        each_event(&run(Shape::Plain, seed, 1000), |before, event, after| {
             let is_sound = before.areas.lengths_are_right() && sound(&before.areas, &before.desk).is_some();
             if let Some(expected) = list.answer(event.call).filter(|_| is_sound) {
                 // Only a call that the list would carry out may want for room.

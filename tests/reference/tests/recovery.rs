@@ -4,7 +4,7 @@
 mod common;
 
 use common::each_event;
-use reference::bench::{Book, Event, Instrument};
+use reference::bench::{run, Book, Event, Instrument, Shape};
 use reference::calls::{call, redo_alone, sound, Answer, Call, Outcome};
 use reference::layout::{Areas, Desk, Kind};
 use reference::sizes::MOST_PAGES;
@@ -100,9 +100,10 @@ struct Seen {
     images: usize,
 }
 
-fn check_trace(seed: u64, calls: usize, seen: &mut Seen) {
-    let mut book = None;
-    each_event(seed, calls, |before, event, after| {
+fn check_run(shape: Shape, seed: u64, calls: usize, seen: &mut Seen) {
+    let run = run(shape, seed, calls);
+    let mut book = run.book.clone();
+    each_event(&run, |before, event, after| {
         check_every_cut(before, event.call, &book);
         let slides_before = book.as_ref().map(|book| book.slides.clone());
         book = Book::after(book.take(), event);
@@ -119,10 +120,10 @@ fn check_trace(seed: u64, calls: usize, seen: &mut Seen) {
     });
 }
 
-fn check_seeds(seeds: std::ops::Range<u64>, calls: usize) {
+fn check_seeds(shape: Shape, seeds: std::ops::Range<u64>, calls: usize) {
     let mut seen = Seen::default();
     for seed in seeds {
-        check_trace(seed, calls, &mut seen);
+        check_run(shape, seed, calls, &mut seen);
     }
     // A trace without cuts would check nothing.
     assert!(seen.cuts > 50 && seen.restarts > 20 && seen.cut_restarts > 20 && seen.images > 500);
@@ -130,10 +131,15 @@ fn check_seeds(seeds: std::ops::Range<u64>, calls: usize) {
 
 #[test]
 fn no_cut_loses_or_invents_a_slide_in_short_runs() {
-    check_seeds(100..120, 300);
+    check_seeds(Shape::Plain, 100..120, 300);
 }
 
 #[test]
 fn no_cut_loses_or_invents_a_slide_in_long_runs() {
-    check_seeds(200..205, 1500);
+    check_seeds(Shape::Plain, 200..205, 1500);
+}
+
+#[test]
+fn no_cut_loses_or_invents_a_slide_in_runs_from_the_field() {
+    check_seeds(Shape::Field, 250..270, 200);
 }

@@ -2,10 +2,11 @@
 
 mod common;
 
-use common::{each_event, each_event_of};
+use common::each_event;
 use reference::bench::{damaged_trace, run, trace, Command, Event, Instrument, Shape};
-use reference::calls::sound;
+use reference::calls::{redo_alone, sound, Call};
 use reference::layout::{Kind, Page, Record, Store};
+use reference::sizes::SLOT_BYTES;
 use std::collections::BTreeSet;
 
 #[test]
@@ -87,7 +88,7 @@ fn linked_before_a_join(records: &[&Record]) -> Option<&'static str> {
 }
 
 /// What the traces are for. Restart's 5 and 6 need damage, and its 18 and abort's 19 an image past the reserves.
-const WANTED: [&str; 68] = [
+const WANTED: [&str; 69] = [
     "link after the right neighbour",
     "link of the left neighbour",
     "Split at level 0",
@@ -116,6 +117,7 @@ const WANTED: [&str; 68] = [
     "Next refused 12",
     "Next refused 14",
     "Next refused 16",
+    "Insert refused 7",
     "Insert refused 11",
     "Insert refused 12",
     "Insert refused 14",
@@ -162,7 +164,7 @@ const WANTED: [&str; 68] = [
 fn the_traces_meet_each_tree_change_each_refusal_and_each_kind_of_cut() {
     let mut met = BTreeSet::new();
     for seed in 1..=12 {
-        each_event(seed, 2000, |before, event, after| met.extend(features(before, event, after)));
+        each_event(&run(Shape::Plain, seed, 2000), |before, event, after| met.extend(features(before, event, after)));
     }
     let missed: Vec<&str> = WANTED.into_iter().filter(|feature| !met.contains(*feature)).collect();
     assert!(missed.is_empty(), "the traces never meet {missed:?}");
@@ -172,7 +174,7 @@ fn the_traces_meet_each_tree_change_each_refusal_and_each_kind_of_cut() {
 fn the_damaged_traces_meet_restarts_reasons_and_go_on() {
     let mut met = BTreeSet::new();
     for seed in 1..=4 {
-        each_event_of(&damaged_trace(seed, 800), |before, event, after| met.extend(features(before, event, after)));
+        each_event(&run(Shape::Damaged, seed, 800), |before, event, after| met.extend(features(before, event, after)));
     }
     let wanted = [3, 4, 5, 6].map(|number| format!("Restart refused {number}"));
     assert!(wanted.iter().all(|feature| met.contains(feature)), "{met:?}");
@@ -181,7 +183,7 @@ fn the_damaged_traces_meet_restarts_reasons_and_go_on() {
 #[test]
 fn a_crowded_trace_has_eight_open_batches_with_something_pending() {
     let mut most = 0;
-    each_event_of(&run(Shape::Crowded, 1, 1000).commands, |_, _, after| {
+    each_event(&run(Shape::Crowded, 1, 1000), |_, _, after| {
         most = most.max(after.desk.rows.iter().filter(|row| row.pending > 0).count());
     });
     assert_eq!(most, 8);
@@ -193,4 +195,54 @@ fn the_largest_run_starts_from_a_sound_register_with_most_slots_used() {
     let sound = sound(&areas, &desk).expect("sound");
     assert!(areas.page_count() == 896 && areas.slot_count() == 16_384 && desk.written > 14_000);
     assert!(sound.work.page(1).level >= 3 && sound.work.pages.free_count() < 200);
+}
+
+/// What an event had to do with key 0, in words.
+fn with_key_0(event: &Event, before: &Instrument, after: &Instrument) -> Vec<String> {
+    let undone = new_of_key_0(before, after).into_iter().map(|kind| format!("{kind:?}"));
+    let name = match event.call {
+        Call::Fetch { key: 0, .. } => "fetch",
+        Call::Delete { key: 0, .. } => "delete",
+        Call::Insert { key: 0, .. } => "insert",
+        _ => return undone.collect(),
+    };
+    let answer = event.answer.map_or_else(|refusal| refusal.number(), |_| 0);
+    undone.chain([format!("{name} {answer}")]).collect()
+}
+
+/// The kinds of the records of key 0 that an event wrote, where it is seen.
+fn new_of_key_0(before: &Instrument, after: &Instrument) -> Vec<Kind> {
+    let written = before.areas.stable_log.chunks_exact(SLOT_BYTES).zip(after.areas.stable_log.chunks_exact(SLOT_BYTES));
+    let new = written.filter(|(before, after)| before != after).filter_map(|(_, after)| Record::read(after));
+    new.filter(|record| record.key == 0 && record.kind < Kind::Commit && record.kind > Kind::Begin)
+        .map(|record| record.kind)
+        .collect()
+}
+
+#[test]
+fn the_runs_from_the_field_start_with_slide_0_and_meet_what_is_done_to_it() {
+    let mut met = BTreeSet::new();
+    let mut filed = 0;
+    for seed in 1..=20 {
+        let run = run(Shape::Field, seed, 200);
+        assert!(redo_alone(&run.start.areas).is_ok(), "a whole image");
+        filed += usize::from(run.book.as_ref().is_some_and(|book| book.slides.contains_key(&0)));
+        each_event(&run, |before, event, after| met.extend(with_key_0(event, before, after)));
+    }
+    assert!(filed >= 5, "{filed} of 20 have slide 0 filed");
+    let wanted = [
+        "fetch 0",
+        "fetch 14",
+        "fetch 16",
+        "delete 0",
+        "delete 14",
+        "delete 16",
+        "insert 7",
+        "Delete",
+        "UndoInsert",
+        "UndoDelete",
+    ];
+    let missed: Vec<&str> = wanted.into_iter().filter(|feature| !met.contains(*feature)).collect();
+    assert!(missed.is_empty(), "never met: {missed:?}");
+    assert!(!met.contains("Insert") && !met.contains("insert 0"), "{met:?}");
 }

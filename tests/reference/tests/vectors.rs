@@ -14,8 +14,9 @@ fn read(name: &str) -> Vec<u8> {
 
 /// The vectors whose names begin so, without their endings.
 fn names(start: &str) -> Vec<String> {
-    let files = fs::read_dir(folder()).expect("the folder of the vectors");
-    let names = files.map(|file| file.expect("a file").file_name().into_string().expect("a plain name"));
+    let within = &start[..start.rfind('/').map_or(0, |end| end + 1)];
+    let files = fs::read_dir(folder().join(within)).expect("the folder of the vectors");
+    let names = files.map(|file| within.to_owned() + file.expect("a file").file_name().to_str().expect("a plain name"));
     names.filter_map(|name| name.strip_suffix(".in").filter(|name| name.starts_with(start)).map(String::from)).collect()
 }
 
@@ -53,7 +54,17 @@ fn each_refusal() {
 
 #[test]
 fn damaged_images() {
-    compare("damage-", 4, vectors);
+    compare("damage-", 6, vectors);
+}
+
+#[test]
+fn keys_of_unread_barcodes() {
+    compare("u01-", 7, vectors);
+}
+
+#[test]
+fn images_from_the_field() {
+    compare("field/", 5, vectors);
 }
 
 #[test]

@@ -1,4 +1,4 @@
-//! The listed reasons for which a call is refused, with 01's numbers.
+//! The listed reasons for which a call is refused, with the numbers of 01 and 02.
 
 #[derive(Clone, Copy, Debug, PartialEq, Eq, PartialOrd, Ord)]
 #[repr(u8)]
@@ -15,6 +15,8 @@ pub enum Refusal {
     Redo = 5,
     /// Restart: the redone pages break the tree rules or the pending rule.
     Tree = 6,
+    /// The key of an insert is 0: the barcode was not read.
+    Unread = 7,
     /// The working areas or the desk are not sound.
     Unsound = 11,
     /// No such open batch.

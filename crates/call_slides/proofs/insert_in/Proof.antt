@@ -14,7 +14,7 @@ use Rattle.call_slides.specs.Changes.{insert-barred, insert-0}
 
 returns : tie.Need-returns
 returns c budget sp sl g =
-    insert-barred g _ _ _ _ _ (c .before .before .before .before .is-there .ensures ∙ ap found (sym (fetched-read g _ _ (c .before .before .before .before .before .before .fetched .ensures)))) (c .before .before .before .update-bar .ensures .1 _ _ sp sl g) (not-true _ (c .before .if1 .taken)) budget _ (c .refused .ensures)
+    insert-barred g _ _ _ _ _ (c .before .before .before .before .before .before .before .before .before .before .pre .4) (c .before .before .before .before .is-there .ensures ∙ ap found (sym (fetched-read g _ _ (c .before .before .before .before .before .before .fetched .ensures)))) (c .before .before .before .update-bar .ensures .1 _ _ sp sl g) (not-true _ (c .before .if1 .taken)) budget _ (c .refused .ensures)
 
 updated-requires : tie.Need-updated-requires
 updated-requires c κs =
@@ -26,7 +26,7 @@ unfolding kind-of
 returns-2 c budget sp sl g =
     let u = c .before .before .before .before .before .before .before .before .before .before .update-bar in
     let p = c .before .before .before .before .before .put-record in
-    insert-0 g _ _ _ (u .result .row) budget (p .result) _ (omega (arith, c .before .before .before .before .before .before .before .before .before .before .before .before .before .before .before .before .before .fits .k .fits)) refl (c .updated .ensures) _ (c .before .before .before .before .before .before .before .before .before .before .before .is-there .ensures ∙ ap found (sym (fetched-read g _ _ (c .before .before .before .before .before .before .before .before .before .before .before .before .before .fetched .ensures)))) (u .ensures .1 _ _ sp sl g .frees (not-false _ (c .before .before .before .before .before .before .before .before .if1 .left))) (p .ensures (run-of (areas g)) (g .known .shows sp))
+    insert-0 g _ _ _ (u .result .row) budget (p .result) _ (omega (arith, c .before .before .before .before .before .before .before .before .before .before .before .before .before .before .before .before .before .fits .k .fits)) refl (c .updated .ensures) _ (c .before .before .before .before .before .before .before .before .before .before .before .before .before .before .before .before .before .pre .4) (c .before .before .before .before .before .before .before .before .before .before .before .is-there .ensures ∙ ap found (sym (fetched-read g _ _ (c .before .before .before .before .before .before .before .before .before .before .before .before .before .fetched .ensures)))) (u .ensures .1 _ _ sp sl g .frees (not-false _ (c .before .before .before .before .before .before .before .before .if1 .left))) (p .ensures (run-of (areas g)) (g .known .shows sp))
 
 pub insert-in-spec : {M : Type 1} → statement M
 insert-in-spec =

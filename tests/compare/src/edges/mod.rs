@@ -1,5 +1,5 @@
 //! The edges: the deepest trees, the most pending updates, exact room and one place short of it, the largest counts, first
-//! and last keys, pages of 4 and 14 entries, and two registers at once.
+//! and last keys, key 0, pages of 4 and 14 entries, and two registers at once.
 
 mod calls;
 mod deep;
@@ -7,10 +7,12 @@ mod pending;
 mod rooms;
 mod threads;
 mod tree;
+mod unread;
 mod written;
 
 pub use deep::{built_trees, risen_tree};
 pub use pending::most_pending;
 pub use rooms::{exact_pages, exact_slots};
 pub use threads::two_threads;
+pub use unread::key_0;
 pub use written::largest_redo;

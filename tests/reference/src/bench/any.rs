@@ -6,7 +6,7 @@ use crate::layout::{Areas, Desk};
 use crate::sizes::{DESK_NUMBERS, FEWEST_PAGES, FEWEST_SLOTS, MOST_PAGES, MOST_SLOTS, PAGE_BYTES, SLOT_BYTES};
 
 pub fn any_call(random: &mut Random) -> Call {
-    let (batch, key, value) = (random.below(40) as u32, random.number(), random.number());
+    let (batch, key, value) = (random.below(40) as u32, [0, random.number()][random.below(2)], random.number());
     match random.below(10) {
         0 => Call::Format,
         1 => Call::Begin,

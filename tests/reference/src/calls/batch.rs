@@ -6,11 +6,18 @@ use crate::log::OpenBatches;
 use crate::Refusal;
 use std::ops::RangeInclusive;
 
+/// Check 1.
+pub fn ask_lengths(areas: &Areas) -> Result<(), Refusal> {
+    if areas.lengths_are_right() {
+        Ok(())
+    } else {
+        Err(Refusal::Lengths)
+    }
+}
+
 /// Checks 1, 11 and 12 for a call that only looks.
 pub fn enter_to_read(areas: &Areas, desk: &Desk, batch: u32) -> Result<Sound, Refusal> {
-    if !areas.lengths_are_right() {
-        return Err(Refusal::Lengths);
-    }
+    ask_lengths(areas)?;
     let sound = sound(areas, desk).ok_or(Refusal::Unsound)?;
     if sound.work.open.find(batch).is_none() {
         return Err(Refusal::NoBatch);

@@ -1,6 +1,6 @@
 //! Insert and delete: go down, then write the update on the leaf that covers the key.
 
-use super::batch::{ask_not_held, enter_to_write};
+use super::batch::{ask_lengths, ask_not_held, enter_to_write};
 use super::sound::{pages_suffice, slots_suffice, Sound};
 use super::{Answer, Outcome};
 use crate::layout::{Areas, Desk, Entry, Kind, Record};
@@ -8,6 +8,9 @@ use crate::log::Work;
 use crate::sizes::{UPDATE_PAGES, UPDATE_RECORDS};
 use crate::tree::{go_down, Purpose};
 use crate::Refusal;
+
+/// "When the barcode reader fails it hands over slide number 0." Only an insert asks for it (02, U1).
+const UNREAD: u32 = 0;
 
 pub fn insert(areas: &Areas, desk: &Desk, batch: u32, key: u32, value: u32) -> Outcome {
     outcome(areas, desk, try_insert(areas, desk, batch, Entry::new(key, value)))
@@ -25,6 +28,10 @@ fn outcome(areas: &Areas, desk: &Desk, work: Result<Work, Refusal>) -> Outcome {
 }
 
 fn try_insert(areas: &Areas, desk: &Desk, batch: u32, slide: Entry) -> Result<Work, Refusal> {
+    ask_lengths(areas)?;
+    if slide.key == UNREAD {
+        return Err(Refusal::Unread);
+    }
     let sound = enter_to_write(areas, desk, batch)?;
     ask_not_held(&sound.work.open, batch, slide.key..=slide.key)?;
     if find(&sound, slide.key).is_some() {

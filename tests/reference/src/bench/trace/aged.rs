@@ -11,9 +11,10 @@ use std::collections::BTreeMap;
 /// How many updates a batch makes at most.
 const UPDATES: usize = 6;
 
-struct Aged {
-    work: Work,
-    slides: BTreeMap<u32, u32>,
+pub struct Aged {
+    pub work: Work,
+    /// What stands in the leaves.
+    pub slides: BTreeMap<u32, u32>,
     /// The pages as they were when they were last written out.
     stable_pages: Vec<u8>,
     stored: usize,
@@ -21,8 +22,7 @@ struct Aged {
 
 /// So many pages and slots, used up but for about so many slots, and the slides that are filed.
 pub fn aged(random: &mut Random, pages: usize, slots: usize, left: usize) -> (Instrument, BTreeMap<u32, u32>) {
-    let work = Work::formatted(pages, slots);
-    let mut aged = Aged { stable_pages: work.pages.bytes(), work, slides: BTreeMap::new(), stored: 0 };
+    let mut aged = Aged::new(pages, slots);
     while aged.work.log.records.len() + left < slots && aged.has_room() {
         aged = aged.file_a_case(random);
     }
@@ -30,13 +30,28 @@ pub fn aged(random: &mut Random, pages: usize, slots: usize, left: usize) -> (In
 }
 
 impl Aged {
+    /// Just formatted.
+    pub fn new(pages: usize, slots: usize) -> Aged {
+        let work = Work::formatted(pages, slots);
+        Aged { stable_pages: work.pages.bytes(), work, slides: BTreeMap::new(), stored: 0 }
+    }
+
+    pub fn begin(&mut self) -> u32 {
+        self.work.write(Record::new(Kind::Begin)).expect("a slot is left");
+        self.work.log.last_number()
+    }
+
+    pub fn commit(&mut self, batch: u32) {
+        self.work.write_about_batch(Kind::Commit, batch).expect("the reserves hold");
+        self.stored = self.work.log.records.len();
+    }
+
     fn has_room(&self) -> bool {
         slots_suffice(&self.work, UPDATES * UPDATE_RECORDS, UPDATES, 1)
     }
 
     fn file_a_case(mut self, random: &mut Random) -> Aged {
-        self.work.write(Record::new(Kind::Begin)).expect("a slot is left");
-        let batch = self.work.log.last_number();
+        let batch = self.begin();
         // Copied only for a case that is taken back.
         let before = random.once_in(12).then(|| self.slides.clone());
         for _ in 0..random.within(1, UPDATES) {
@@ -46,8 +61,7 @@ impl Aged {
             take_back(&mut self.work, batch).expect("the reserves hold");
             self.slides = before;
         } else {
-            self.work.write_about_batch(Kind::Commit, batch).expect("the reserves hold");
-            self.stored = self.work.log.records.len();
+            self.commit(batch);
         }
         if random.once_in(4) {
             let page = random.below(self.work.pages.count());
@@ -75,13 +89,13 @@ impl Aged {
         Aged { work: update(self.work, batch, kind, slide).expect("there is room"), ..self }
     }
 
-    fn write_out(&mut self, page: usize) {
+    pub fn write_out(&mut self, page: usize) {
         self.stored = self.work.log.records.len();
         let bytes = self.work.pages.page_bytes(page);
         self.stable_pages[page * PAGE_BYTES..][..PAGE_BYTES].copy_from_slice(&bytes);
     }
 
-    fn finished(self) -> (Instrument, BTreeMap<u32, u32>) {
+    pub fn finished(self) -> (Instrument, BTreeMap<u32, u32>) {
         let working_log = self.work.log.bytes();
         let mut stable_log = working_log.clone();
         stable_log[self.stored * SLOT_BYTES..].fill(0);

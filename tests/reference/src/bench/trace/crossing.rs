@@ -36,8 +36,8 @@ pub fn begin(maker: &mut Maker) -> Option<u32> {
     }
 }
 
-/// Put in the next key above that is not there, or take out the next one above that is; held ones aside. False if there
-/// is none, or no room.
+/// Put in the next key above that is not there, or take out the next one above that is; held ones aside, and key 0, which
+/// is not put in. False if there is none, or no room.
 fn update_near(maker: &mut Maker, batch: u32, from: u32, put_in: bool) -> bool {
     let Some(sound) = &maker.sound else {
         return false;
@@ -45,7 +45,7 @@ fn update_near(maker: &mut Maker, batch: u32, from: u32, put_in: bool) -> bool {
     let held = |key: u32| sound.work.open.list.iter().any(|open| open.pending.iter().any(|update| update.key == key));
     let is_there = |key: u32| sound.slides.binary_search_by_key(&key, |slide| slide.key).is_ok();
     let call = if put_in {
-        let key = maker.keys.all_from(from).find(|key| !is_there(*key) && !held(*key));
+        let key = maker.keys.all_from(from).find(|key| *key != 0 && !is_there(*key) && !held(*key));
         key.map(|key| Call::Insert { batch, key, value: maker.random.number() })
     } else {
         let key = sound.slides.iter().map(|slide| slide.key).find(|key| *key >= from && !held(*key));

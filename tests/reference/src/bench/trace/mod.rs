@@ -9,6 +9,7 @@ mod beside;
 mod crossing;
 mod damage;
 mod everyday;
+mod field;
 mod keys;
 mod maker;
 mod temper;
@@ -19,7 +20,9 @@ pub use temper::Shape;
 use super::{Book, Command, Instrument, Random};
 use crate::sizes::{MOST_PAGES, MOST_SLOTS};
 use aged::aged;
+use field::{ask_for_slide_0, from_the_field};
 use maker::Maker;
+use temper::Temper;
 
 /// A run: the register that it starts from, the plain book of that register if it has been formatted, and the commands.
 pub struct Run {
@@ -31,22 +34,39 @@ pub struct Run {
 /// A run with at least this many calls.
 pub fn run(shape: Shape, seed: u64, calls: usize) -> Run {
     let mut maker = Maker::new(Random::new(seed), calls, shape);
-    let (mut start, mut book) = (Instrument::default(), None);
-    if shape == Shape::Largest {
-        let left = maker.random.within(200, 2000);
-        let (register, slides) = aged(&mut maker.random, MOST_PAGES, MOST_SLOTS, left);
-        maker.start_from(register.clone());
-        (start, book) = (register, Some(Book::of(slides)));
-    } else {
-        trouble::first_format(&mut maker);
-    }
+    let (start, book) = started(&mut maker, shape);
     while maker.calls_left > 0 {
         if shape == Shape::Damaged && maker.random.once_in(12) {
             damage::damage(&mut maker);
         }
+        if shape == Shape::Field && maker.random.once_in(6) {
+            ask_for_slide_0(&mut maker);
+        }
         step(&mut maker);
     }
     Run { start, book, commands: maker.commands }
+}
+
+/// What a run starts from: nothing, and then it is lent and formatted, or a register that is there already.
+fn started(maker: &mut Maker, shape: Shape) -> (Instrument, Option<Book>) {
+    let (register, slides) = match shape {
+        Shape::Largest => {
+            let left = maker.random.within(200, 2000);
+            aged(&mut maker.random, MOST_PAGES, MOST_SLOTS, left)
+        }
+        Shape::Field => {
+            let Temper { most_pages, most_slots, .. } = maker.temper;
+            let pages = maker.random.within(most_pages / 2, most_pages);
+            let slots = maker.random.within(most_slots / 2, most_slots);
+            from_the_field(&mut maker.random, pages, slots)
+        }
+        _ => {
+            trouble::first_format(maker);
+            return (Instrument::default(), None);
+        }
+    };
+    maker.start_from(register.clone());
+    (register, Some(Book::of(slides)))
 }
 
 /// The commands of a run from nothing, of the kind that demand 3 speaks of.

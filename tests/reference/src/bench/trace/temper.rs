@@ -15,10 +15,13 @@ pub enum Shape {
     Largest,
     /// Areas that just suffice or fall just short, and first and last keys.
     Edge,
+    /// From the image of a version that still filed slide 0, and mostly about that slide.
+    Field,
 }
 
 impl Shape {
-    pub const ALL: [Shape; 5] = [Shape::Plain, Shape::Damaged, Shape::Crowded, Shape::Largest, Shape::Edge];
+    pub const ALL: [Shape; 6] =
+        [Shape::Plain, Shape::Damaged, Shape::Crowded, Shape::Largest, Shape::Edge, Shape::Field];
 
     pub fn name(self) -> &'static str {
         match self {
@@ -27,6 +30,7 @@ impl Shape {
             Shape::Crowded => "crowded",
             Shape::Largest => "largest",
             Shape::Edge => "edge",
+            Shape::Field => "field",
         }
     }
 }
@@ -57,6 +61,7 @@ impl Temper {
             Shape::Crowded => Temper::crowded(random),
             Shape::Largest => Temper::largest(random),
             Shape::Edge => Temper::edge(random),
+            Shape::Field => Temper::field(random),
         }
     }
 
@@ -118,6 +123,20 @@ impl Temper {
             begins: 20,
             exact: true,
             ends: 4,
+        }
+    }
+
+    fn field(random: &mut Random) -> Temper {
+        Temper {
+            deep: false,
+            most_pages: random.within(80, 160),
+            most_slots: random.within(500, 900),
+            calm: 5,
+            wanted_open: random.within(1, 4),
+            wanted_pending: random.within(1, 6),
+            begins: 20,
+            exact: false,
+            ends: 2,
         }
     }
 }

@@ -182,6 +182,7 @@ fn cut_format(maker: &mut Maker) {
 /// A call with numbers from anywhere.
 fn senseless_call(maker: &mut Maker) -> Call {
     let (batch, key, value) = (wrong_batch(maker), maker.random.number(), maker.random.number());
+    let key = [0, key][maker.random.below(2)];
     match maker.random.below(10) {
         0 => Call::Begin,
         1 => Call::Fetch { batch, key },
@@ -221,6 +222,7 @@ fn wrong_batch_call(maker: &mut Maker) -> Option<Call> {
         Call::Fetch { batch, key },
         Call::Next { batch, key },
         Call::Insert { batch, key, value: 1 },
+        Call::Insert { batch, key: 0, value: 1 },
         Call::Delete { batch, key },
         Call::Commit { batch },
         Call::Abort { batch },
