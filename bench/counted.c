@@ -1,7 +1,7 @@
 /* One call and one pass of each kind, for counting instructions.
  *
- *   counted stage IMAGE LETTER SCENE   stages the call on a full log, at full speed; P is a fetch with many updates pending, on any log, and
- *                                      O a restart with every page written out just before
+ *   counted stage IMAGE LETTER SCENE   stages the call on a full log, at full speed; P is a fetch with many updates pending, and Q a return
+ *                                      of many, on any log, and O a restart with every page written out just before
  *   counted run SCENE                  the passes and the call, each once: what is counted is chosen by its function's name
  */
 #include "pass.h"
@@ -13,15 +13,16 @@ static int stage_file(const char *image, char letter, const char *to)
 {
     static struct scene scene;
     load_scene(&scene, image);
-    uint32_t pending = letter == 'C' || letter == 'R' || letter == 'O';
     if (letter == 'P')
-        pending = stage_pending(&scene);
+        stage_pending(&scene);
+    else if (letter == 'Q')
+        stage_return(&scene);
     else
         stage(&scene, letter == 'O' ? 'R' : letter, FULL);
     if (letter == 'O')
         write_out_all(&scene);
     save_scene(&scene, to);
-    printf("%u %u\n", records(&scene), pending);
+    printf("%u %u\n", records(&scene), pending(&scene));
     return 0;
 }
 

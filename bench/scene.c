@@ -4,7 +4,7 @@
 #include <stdlib.h>
 #include <string.h>
 
-enum { RECORDS_AT = 128, STORED_AT = 132, HEAD = 8 };
+enum { ROWS = 8, ROW_BYTES = 16, PENDING_AT = 12, RECORDS_AT = 128, STORED_AT = 132, HEAD = 8 };
 
 /* The last steps of MurmurHash3: each can be undone, so no two numbers give one key. */
 uint32_t key_of(uint32_t i)
@@ -23,6 +23,15 @@ uint32_t records(const struct scene *scene)
 uint32_t stored(const struct scene *scene)
 {
     return number_at(scene->in.desk, STORED_AT);
+}
+
+/* Updates of open batches that are not undone. */
+uint32_t pending(const struct scene *scene)
+{
+    uint32_t sum = 0;
+    for (int row = 0; row < ROWS; row++)
+        sum += number_at(scene->in.desk, (size_t)(ROW_BYTES * row + PENDING_AT));
+    return sum;
 }
 
 uint32_t slots(const struct scene *scene)

@@ -16,6 +16,7 @@ uint32_t key_of(uint32_t i);
 
 uint32_t records(const struct scene *scene);
 uint32_t stored(const struct scene *scene);
+uint32_t pending(const struct scene *scene);
 uint32_t slots(const struct scene *scene);
 uint32_t pages(const struct scene *scene);
 

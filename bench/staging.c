@@ -6,7 +6,7 @@ enum { OPEN = 8 };
 
 const struct named_call calls[CALLS] = {
     { "begin", 'B' }, { "fetch", 'F' }, { "next", 'N' }, { "insert", 'I' }, { "delete", 'D' },
-    { "commit", 'C' }, { "abort", 'A' }, { "write-out", 'W' }, { "restart", 'R' }, { "format", 'Z' },
+    { "mark", 'M' }, { "return", 'T' }, { "commit", 'C' }, { "abort", 'A' }, { "write-out", 'W' }, { "restart", 'R' }, { "format", 'Z' },
 };
 
 const char *const fill_names[FILLS] = { "empty", "half", "full" };
@@ -43,17 +43,33 @@ void write_out_all(struct scene *scene)
         must(scene, 'W', page, 0, 0);
 }
 
-uint32_t stage_pending(struct scene *scene)
+/* Slides filed by these open batches in turn, until one is refused. */
+static void file_all(struct scene *scene, const uint32_t *batches, uint32_t count)
 {
-    uint32_t batches[OPEN], pending = 0;
+    for (uint32_t i = 0; make(&scene->in, (struct call){ 'I', { batches[i % count], no_key(scene), 7 } }) == 0; i++)
+        scene->newest++;
+}
+
+void stage_pending(struct scene *scene)
+{
+    uint32_t batches[OPEN];
     for (int i = 0; i < OPEN; i++)
         batches[i] = must(scene, 'B', 0, 0, 0);
     scene->next = (struct call){ 'F', { batches[0], some_key(scene), 0 } };
-    while (make(&scene->in, (struct call){ 'I', { batches[pending % OPEN], no_key(scene), 7 } }) == 0) {
-        scene->newest++;
-        pending++;
-    }
-    return pending;
+    file_all(scene, batches, OPEN);
+}
+
+/* A batch's own number is the mark from before all that it does. */
+static struct call return_of_all(uint32_t batch)
+{
+    return (struct call){ 'T', { batch, batch, 0 } };
+}
+
+void stage_return(struct scene *scene)
+{
+    uint32_t batch = must(scene, 'B', 0, 0, 0);
+    scene->next = return_of_all(batch);
+    file_all(scene, &batch, 1);
 }
 
 /* The numbers of a call that goes with `batch`. */
@@ -62,6 +78,7 @@ static struct call with_batch(const struct scene *scene, char letter, uint32_t b
     switch (letter) {
     case 'N': return (struct call){ letter, { batch, some_key(scene) - 1, 0 } };
     case 'I': return (struct call){ letter, { batch, no_key(scene), 7 } };
+    case 'T': return return_of_all(batch);
     case 'W': return (struct call){ letter, { 1, 0, 0 } };
     default: return (struct call){ letter, { batch, some_key(scene), 0 } };
     }
@@ -69,7 +86,8 @@ static struct call with_batch(const struct scene *scene, char letter, uint32_t b
 
 void stage(struct scene *scene, char letter, enum fill fill)
 {
-    int updates = letter == 'I' || letter == 'D' || letter == 'C' || letter == 'A' || letter == 'R';
+    int finds_one = letter == 'C' || letter == 'A' || letter == 'T';
+    int updates = finds_one || letter == 'I' || letter == 'D' || letter == 'R';
     if (fill == FULL && !updates)
         top_up(scene, slots(scene) - SPARE_FOR_BEGIN);
     if (letter == 'R') {
@@ -77,7 +95,7 @@ void stage(struct scene *scene, char letter, enum fill fill)
         return;
     }
     uint32_t batch = letter == 'B' ? 0 : must(scene, 'B', 0, 0, 0);
-    if (letter == 'C' || letter == 'A')
+    if (finds_one)
         file_one(scene, batch);
     scene->next = with_batch(scene, letter, batch);
 }

@@ -1,4 +1,4 @@
-/* The ten calls, each staged on a register of committed cases: what must come before it, and its numbers. */
+/* The twelve calls, each staged on a register of committed cases: what must come before it, and its numbers. */
 #ifndef STAGING_H
 #define STAGING_H
 
@@ -9,7 +9,7 @@ struct named_call {
     char letter;
 };
 
-enum { CALLS = 10 };
+enum { CALLS = 12 };
 extern const struct named_call calls[CALLS];
 
 enum { FILLS = 3 };
@@ -21,8 +21,8 @@ extern const char *const fill_names[FILLS];
 /* Of the register's slots, those that are left free by a full log in which one more batch can make one update: 01's reserves. */
 enum { SPARE_FOR_UPDATE = 67, SPARE_FOR_BEGIN = 3 };
 
-/* Makes the calls that must come before, and sets the next one. In a full log begin, fetch, next, write-out and format find it fuller than
- * the calls that need the reserves of an update. */
+/* Makes the calls that must come before, and sets the next one. In a full log begin, fetch, next, mark, write-out and format find it fuller
+ * than the calls that need the reserves of an update. */
 void stage(struct scene *scene, char letter, enum fill fill);
 
 /* An open batch with one update, all its records stored, and the power about to fail: what a restart meets. */
@@ -31,7 +31,10 @@ void stage_restart(struct scene *scene);
 /* Every page is written out. */
 void write_out_all(struct scene *scene);
 
-/* A fetch while eight batches are open, with as many updates pending as the reserves allow. Returns how many. */
-uint32_t stage_pending(struct scene *scene);
+/* A fetch while eight batches are open, with as many updates pending as the reserves allow. */
+void stage_pending(struct scene *scene);
+
+/* A return that takes back as many updates of one batch as the reserves allow. */
+void stage_return(struct scene *scene);
 
 #endif

@@ -12,9 +12,10 @@
  * numbers in the areas are bytes, most significant first, so an image that one machine wrote is read by any other. The library is made
  * for the machine that makes it; x86-64 Linux is what is tried.
  *
- * IN A HURRY: fill in a struct donzhikar and call the functions whose names end in _in, which stand at the end. They are the ten functions
- * with one leading argument in place of twelve. There too: what is left (donzhikar_slots_left, donzhikar_pages_left), what a refusal
- * means in words (donzhikar_text), and the loops that everyone writes (donzhikar_list_in, donzhikar_file_in, donzhikar_come_back_in).
+ * IN A HURRY: fill in a struct donzhikar and call the functions whose names end in _in, which stand at the end. They are the twelve
+ * functions with one leading argument in place of six pointers and their lengths. There too: what is left (donzhikar_slots_left,
+ * donzhikar_pages_left), what a refusal means in words (donzhikar_text), and the loops that everyone writes (donzhikar_list_in,
+ * donzhikar_file_in, donzhikar_file_tray_in, donzhikar_come_back_in).
  *
  *
  * WHAT THE CALLER LENDS
@@ -52,8 +53,9 @@
  *
  * THE REASONS, AND WHAT EACH LEAVES
  *
- * The reasons are tried in the order of their numbers, but for restart's 17 and 18, of which the first that is met is given, 17 if both
- * are met at once. Unless the table says otherwise a refused call leaves the four areas and the desk exactly as they were.
+ * The reasons are tried in the order of their numbers, but for return's 20, which is tried before 19, and for restart's 17 and 18, of which
+ * the first that is met is given, 17 if both are met at once. Unless the table says otherwise a refused call leaves the four areas and the
+ * desk exactly as they were.
  *
  *    1  The areas' lengths are wrong, or those of a kind are unequal. Every call.
  *       Nothing changes in the areas; format and restart leave an empty desk (136 zeros), the others leave the desk.
@@ -69,7 +71,7 @@
  *       earlier version filed under 0 are still fetched and deleted; next never finds one, as it looks above the key that it is given.
  *   11  The working areas or the desk are not sound: not what calls leave. Every call but format and restart. Nothing changes.
  *       After a power failure this is the usual answer until restart has run, and not one to rely on: see COMING BACK.
- *   12  There is no such open batch. Fetch, next, insert, delete, commit, abort. Nothing changes.
+ *   12  There is no such open batch. Fetch, next, insert, delete, mark, return, commit, abort. Nothing changes.
  *   13  Eight batches are open. Begin. Nothing changes.
  *   14  The key is held by another open batch, which has inserted or deleted it. Fetch, insert, delete; and next, if another batch holds
  *       any key above the asked one up to the one found, or any key above it if none is found. Nothing changes.
@@ -78,8 +80,9 @@
  *   17  Log slots are short. Begin, insert, delete: nothing changes.
  *       Restart: both working areas become zeros, the desk becomes empty, the stable areas stay as they were.
  *   18  Pages are short. Insert, delete: nothing changes. Restart: as 17.
- *   19  An abort ran out of slots or pages. The slots and pages that insert and delete insist on are those that an abort needs, so no
- *       register that the calls themselves have built gives it. Abort. Nothing changes.
+ *   19  An abort or a return ran out of slots or pages. The slots and pages that insert and delete insist on are those that both need, so no
+ *       register that the calls themselves have built gives it. Abort, return. Nothing changes.
+ *   20  The mark is not the number of a record of that batch. Return. Nothing changes.
  *
  * What is short, exactly: with u slots used, p changes pending in open batches and b batches open, begin needs u + 1 + 32p + 2(b + 1) at
  * most the number of slots; insert and delete need u + 32 + 32(p + 1) + 2b at most the number of slots, else 17, and 7 + 7(p + 1) free
@@ -105,6 +108,22 @@
  * and its commit or its abort mark and end. A program that reads often keeps one reading batch open, or ends it by abort, which stores
  * nothing. Read all slides out, and file them in a newly formatted register, at the first 17 that no commit cures: a begin then still
  * passes. A 17 of restart at 16,384 slots is an end: no longer areas can be lent.
+ *
+ *
+ * TRAYS
+ *
+ * A case may fill several trays, and a tray may jam. Ask for a mark before each tray (donzhikar_mark): it is the number of the batch's latest
+ * log record, and the register keeps nothing of it. To take the tray back, return to its mark (donzhikar_return): what the batch inserted and
+ * deleted since then is undone, newest first. The batch stays open with the trays before, and its commit counts with what it kept. (A mark is
+ * a savepoint, and a return the rollback to it.)
+ *
+ * A mark is good while its batch is open, and for any number of returns: every record of the batch is a mark, those that were taken back too.
+ * The batch's own number is one: the return to it takes back all that the batch did. A return stores nothing. A power failure takes the
+ * whole case, as any that is not committed, and its marks.
+ *
+ * A key whose changes are all taken back is no longer held, so another batch may file it, and the tray may then meet 14 or 15. A return
+ * writes records as an abort does, in slots that are kept for it. They are not given back: a slide filed, taken back and filed again costs
+ * at least three slots in place of one.
  *
  *
  * WHAT THE HOST MUST GUARANTEE ABOUT STORES
@@ -213,7 +232,7 @@
 extern "C" {
 #endif
 
-#define DONZHIKAR_VERSION "1.1.0"
+#define DONZHIKAR_VERSION "1.2.0"
 
 #define DONZHIKAR_PAGE_BYTES 128
 #define DONZHIKAR_SLOT_BYTES 144
@@ -242,6 +261,7 @@ extern "C" {
 #define DONZHIKAR_ERROR_SLOTS_SHORT 17
 #define DONZHIKAR_ERROR_PAGES_SHORT 18
 #define DONZHIKAR_ERROR_ABORT_STOPPED 19
+#define DONZHIKAR_ERROR_NO_SUCH_MARK 20
 
 /* What an insert or delete needs of what is left, and what a begin needs (donzhikar_slots_left, donzhikar_pages_left). */
 #define DONZHIKAR_UPDATE_NEEDS_SLOTS 64
@@ -276,7 +296,8 @@ static inline const char *donzhikar_text(uint32_t reason)
     case DONZHIKAR_ERROR_ABSENT: return "there is no such slide, or none above";
     case DONZHIKAR_ERROR_SLOTS_SHORT: return "log slots are short";
     case DONZHIKAR_ERROR_PAGES_SHORT: return "pages are short";
-    case DONZHIKAR_ERROR_ABORT_STOPPED: return "an abort ran out of slots or pages";
+    case DONZHIKAR_ERROR_ABORT_STOPPED: return "an abort or a return ran out of slots or pages";
+    case DONZHIKAR_ERROR_NO_SUCH_MARK: return "the mark is not the number of a record of that batch";
     default: return "no reason of the register";
     }
 }
@@ -327,6 +348,22 @@ uint32_t donzhikar_delete(
     uint8_t *work_log, size_t work_log_length, const uint8_t *stable_log, size_t stable_log_length,
     uint8_t *desk, size_t desk_length, uint8_t *values, size_t values_length,
     uint32_t batch, uint32_t key);
+
+/* Asks an open batch for a mark (TRAYS). First value: the number of the batch's latest log record, which is never 0.
+ * Refused: 1, 11, 12. */
+uint32_t donzhikar_mark(
+    const uint8_t *work_pages, size_t work_pages_length, const uint8_t *stable_pages, size_t stable_pages_length,
+    const uint8_t *work_log, size_t work_log_length, const uint8_t *stable_log, size_t stable_log_length,
+    uint8_t *desk, size_t desk_length, uint8_t *values, size_t values_length,
+    uint32_t batch);
+
+/* Takes back what an open batch changed after a mark, newest first. The batch stays open. Where it changed nothing since, nothing is written.
+ * Refused: 1, 11, 12, 20, 19. */
+uint32_t donzhikar_return(
+    uint8_t *work_pages, size_t work_pages_length, const uint8_t *stable_pages, size_t stable_pages_length,
+    uint8_t *work_log, size_t work_log_length, const uint8_t *stable_log, size_t stable_log_length,
+    uint8_t *desk, size_t desk_length, uint8_t *values, size_t values_length,
+    uint32_t batch, uint32_t mark);
 
 /* Ends a batch whose changes stay. Once the call has returned 0 and its stores are there, no power failure takes them back.
  * Refused: 1, 11, 12. Stores. */
@@ -427,6 +464,18 @@ static inline uint32_t donzhikar_delete_in(struct donzhikar *r, uint32_t batch, 
     return donzhikar_delete(DONZHIKAR_LENT(r), batch, key);
 }
 
+static inline uint32_t donzhikar_mark_in(struct donzhikar *r, uint32_t batch, uint32_t *mark)
+{
+    const uint32_t reason = donzhikar_mark(DONZHIKAR_LENT(r), batch);
+    donzhikar_give(r, 0, mark);
+    return reason;
+}
+
+static inline uint32_t donzhikar_return_in(struct donzhikar *r, uint32_t batch, uint32_t mark)
+{
+    return donzhikar_return(DONZHIKAR_LENT(r), batch, mark);
+}
+
 static inline uint32_t donzhikar_commit_in(struct donzhikar *r, uint32_t batch)
 {
     return donzhikar_commit(DONZHIKAR_LENT(r), batch);
@@ -462,8 +511,8 @@ static inline size_t donzhikar_pending(const struct donzhikar *r)
 }
 
 /* Slots beyond those used and those kept for open batches. An insert or delete needs 64 of them and takes 33 to 64, of which it gives 32
- * back when its batch ends; a begin needs and takes 3. So at least slots / 64 more updates of open batches are taken, and at most
- * (slots - 31) / 33. */
+ * back when its batch ends or takes it back, less the 1 to 32 that an undo writes; a begin needs and takes 3. So at least slots / 64 more
+ * updates of open batches are taken, and at most (slots - 31) / 33. */
 static inline size_t donzhikar_slots_left(const struct donzhikar *r)
 {
     size_t taken = donzhikar_value(r->desk, 32) + 32 * donzhikar_pending(r);
@@ -473,7 +522,7 @@ static inline size_t donzhikar_slots_left(const struct donzhikar *r)
 }
 
 /* Free pages beyond those kept for open batches. An insert or delete needs 14 of them and takes 7 to 14, of which it gives 7 back when its
- * batch ends. */
+ * batch ends or takes it back, less those that an undo takes. */
 static inline size_t donzhikar_pages_left(const struct donzhikar *r)
 {
     size_t taken = 7 * donzhikar_pending(r);
@@ -515,6 +564,15 @@ struct donzhikar_slide {
     uint32_t key, value;
 };
 
+/* Inserts slides in an open batch, until one is refused. */
+static inline uint32_t donzhikar_insert_each_in(struct donzhikar *r, uint32_t batch, const struct donzhikar_slide *slides, size_t count)
+{
+    uint32_t reason = DONZHIKAR_DONE;
+    for (size_t slide = 0; slide < count && reason == DONZHIKAR_DONE; slide++)
+        reason = donzhikar_insert_in(r, batch, slides[slide].key, slides[slide].value);
+    return reason;
+}
+
 /* One try to file a case, all of its slides or none, in a batch of its own. */
 static inline uint32_t donzhikar_try_to_file_in(struct donzhikar *r, const struct donzhikar_slide *slides, size_t count)
 {
@@ -522,8 +580,7 @@ static inline uint32_t donzhikar_try_to_file_in(struct donzhikar *r, const struc
     uint32_t reason = donzhikar_begin_in(r, &batch);
     if (reason != DONZHIKAR_DONE)
         return reason;
-    for (size_t slide = 0; slide < count && reason == DONZHIKAR_DONE; slide++)
-        reason = donzhikar_insert_in(r, batch, slides[slide].key, slides[slide].value);
+    reason = donzhikar_insert_each_in(r, batch, slides, count);
     if (reason == DONZHIKAR_DONE)
         return donzhikar_commit_in(r, batch);
     donzhikar_abort_in(r, batch);
@@ -542,6 +599,25 @@ static inline uint32_t donzhikar_file_in(
     do
         reason = donzhikar_try_to_file_in(r, slides, count);
     while ((reason == DONZHIKAR_ERROR_EIGHT_BATCHES_OPEN || reason == DONZHIKAR_ERROR_HELD_BY_ANOTHER) && wait != NULL && wait(with) == 0);
+    return reason;
+}
+
+/* Files a tray in an open batch, all of its slides or none. Returns 0, or the refusal: then what was filed of the tray is taken back, and the
+ * batch is open with the trays before. `mark` gets the mark from before the tray, so that it can still be taken back when it is filed
+ * (donzhikar_return_in). 14 passes when the other batch ends; then, or with another tray, the call may be made again. Each try costs slots. 17
+ * and 18: as for donzhikar_file_in; the batch with the trays before may still be committed. */
+static inline uint32_t donzhikar_file_tray_in(
+    struct donzhikar *r, uint32_t batch, const struct donzhikar_slide *slides, size_t count, uint32_t *mark)
+{
+    uint32_t before = 0;
+    uint32_t reason = donzhikar_mark_in(r, batch, &before);
+    if (mark != NULL)
+        *mark = before;
+    if (reason != DONZHIKAR_DONE)
+        return reason;
+    reason = donzhikar_insert_each_in(r, batch, slides, count);
+    if (reason != DONZHIKAR_DONE)
+        donzhikar_return_in(r, batch, before);
     return reason;
 }
 

@@ -113,6 +113,16 @@ uint32_t host_delete(struct host *h, uint32_t batch, uint32_t key)
     return donzhikar_delete(AREAS(h), batch, key);
 }
 
+uint32_t host_mark(struct host *h, uint32_t batch)
+{
+    return donzhikar_mark(AREAS(h), batch);
+}
+
+uint32_t host_return(struct host *h, uint32_t batch, uint32_t mark)
+{
+    return donzhikar_return(AREAS(h), batch, mark);
+}
+
 uint32_t host_abort(struct host *h, uint32_t batch)
 {
     return donzhikar_abort(AREAS(h), batch);

@@ -30,6 +30,8 @@ uint32_t host_fetch(struct host *h, uint32_t batch, uint32_t key);
 uint32_t host_next(struct host *h, uint32_t batch, uint32_t key);
 uint32_t host_insert(struct host *h, uint32_t batch, uint32_t key, uint32_t value);
 uint32_t host_delete(struct host *h, uint32_t batch, uint32_t key);
+uint32_t host_mark(struct host *h, uint32_t batch);
+uint32_t host_return(struct host *h, uint32_t batch, uint32_t mark);
 uint32_t host_commit(struct host *h, uint32_t batch);
 uint32_t host_abort(struct host *h, uint32_t batch);
 uint32_t host_write_out(struct host *h, uint32_t page);

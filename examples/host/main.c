@@ -1,11 +1,16 @@
 /* A register on a drive, worked by commands on standard input, one a line:
  *
- *   open CASE  file CASE KEY VALUE  remove CASE KEY  find CASE KEY  commit CASE  cancel CASE  write-out PAGE  list  check
+ *   open CASE  file CASE KEY VALUE  remove CASE KEY  find CASE KEY  tray CASE  take-back CASE  commit CASE  cancel CASE
+ *   write-out PAGE  list  check
  *
  * Numbers are decimal and chosen by the user, those of cases too. Each command is answered by itself, a colon, 0 and any answer, or the
  * refusal's number. `list` prints a line `slide KEY VALUE` for each slide first. `check` first prints a line for each copy on the drive that
  * the start found damaged or behind, and what restart answered, in words. A line that is no command, or opens an open case, prints `?`.
  * An answer is printed when everything that it tells is on the drive, so it may be relied on.
+ *
+ * A case opens with its tray 1. `tray` begins its next one, and answers the tray's number. `take-back` takes the last tray back, which is all
+ * that the case filed and removed since that tray began, and answers its number. The case stays open with the trays before, and this one is
+ * filed again, or left out.
  *
  * Usage: host FILE PAGES SLOTS. A new FILE gets so many pages and slots, and one that has fewer grows. A start writes all of it anew, as
  * FILE.new, and needs the room for that. Each copy that it so repaired is named on standard error.
@@ -20,50 +25,51 @@
 #include <stdlib.h>
 #include <string.h>
 
-enum { LINE = 256, CASES = 8, MOST_NUMBERS = 3 };
+enum { LINE = 256, CASES = 8, MOST_NUMBERS = 3, MOST_ANSWERS = 2 };
 
-/* The open cases: each has a batch of the register. 0 is no batch. */
+/* The open cases: each has a batch of the register, 0 is no batch; and its last tray, counted from 1, with the mark from before it. */
 struct desk_case {
-    uint32_t name, batch;
+    uint32_t name, batch, tray, mark;
 };
 
 struct bench {
     struct host host;
     struct desk_case cases[CASES];
+    uint32_t answers[MOST_ANSWERS]; /* of the last command */
 };
 
 /* ---- cases */
 
+/* The open case of this name, or one of no batch, which the register refuses (12). */
 static struct desk_case *case_named(struct bench *b, uint32_t name)
 {
+    static struct desk_case none;
     for (int i = 0; i < CASES; i++)
         if (b->cases[i].batch != 0 && b->cases[i].name == name)
             return &b->cases[i];
-    return NULL;
+    return &none;
 }
 
-/* The case's batch, or 0, which the register refuses (12). */
 static uint32_t batch_of(struct bench *b, uint32_t name)
 {
-    struct desk_case *found = case_named(b, name);
-    return found == NULL ? 0 : found->batch;
+    return case_named(b, name)->batch;
 }
 
 static void close_case(struct bench *b, uint32_t name, uint32_t reason)
 {
-    struct desk_case *found = case_named(b, name);
-    if (reason == DONZHIKAR_DONE && found != NULL)
-        found->batch = 0;
+    if (reason == DONZHIKAR_DONE)
+        case_named(b, name)->batch = 0;
 }
 
 /* ---- commands: each returns the register's answer */
 
+/* A batch's own number is the mark from before all that it does. */
 static uint32_t open_case(struct bench *b, const uint32_t *n)
 {
-    uint32_t reason = host_begin(&b->host);
+    uint32_t reason = host_begin(&b->host), batch = donzhikar_value(b->host.values, 0);
     for (int i = 0; i < CASES && reason == DONZHIKAR_DONE; i++)
         if (b->cases[i].batch == 0) {
-            b->cases[i] = (struct desk_case){ n[0], donzhikar_value(b->host.values, 0) };
+            b->cases[i] = (struct desk_case){ .name = n[0], .batch = batch, .tray = 1, .mark = batch };
             break;
         }
     return reason;
@@ -81,7 +87,27 @@ static uint32_t remove_slide(struct bench *b, const uint32_t *n)
 
 static uint32_t find_slide(struct bench *b, const uint32_t *n)
 {
-    return host_fetch(&b->host, batch_of(b, n[0]), n[1]);
+    uint32_t reason = host_fetch(&b->host, batch_of(b, n[0]), n[1]);
+    b->answers[0] = donzhikar_value(b->host.values, 0);
+    return reason;
+}
+
+static uint32_t begin_tray(struct bench *b, const uint32_t *n)
+{
+    struct desk_case *of = case_named(b, n[0]);
+    uint32_t reason = host_mark(&b->host, of->batch);
+    if (reason == DONZHIKAR_DONE) {
+        of->mark = donzhikar_value(b->host.values, 0);
+        b->answers[0] = ++of->tray;
+    }
+    return reason;
+}
+
+static uint32_t take_tray_back(struct bench *b, const uint32_t *n)
+{
+    const struct desk_case *of = case_named(b, n[0]);
+    b->answers[0] = of->tray;
+    return host_return(&b->host, of->batch, of->mark);
 }
 
 static uint32_t commit_case(struct bench *b, const uint32_t *n)
@@ -158,8 +184,9 @@ static const struct command {
     uint32_t (*run)(struct bench *b, const uint32_t *n);
 } commands[] = {
     { "open", 1, 0, open_case },     { "file", 3, 0, file_slide },     { "remove", 2, 0, remove_slide },
-    { "find", 2, 1, find_slide },    { "commit", 1, 0, commit_case },  { "cancel", 1, 0, cancel_case },
-    { "list", 0, 0, list_slides },   { "check", 0, 0, check_drive },   { "write-out", 1, 0, write_out_page },
+    { "find", 2, 1, find_slide },    { "tray", 1, 1, begin_tray },     { "take-back", 1, 1, take_tray_back },
+    { "commit", 1, 0, commit_case }, { "cancel", 1, 0, cancel_case },  { "write-out", 1, 0, write_out_page },
+    { "list", 0, 0, list_slides },   { "check", 0, 0, check_drive },
 };
 
 /* Reads one number of digits alone, and moves on behind it. Returns 0 where there is none, or it has more than 32 bits. */
@@ -194,7 +221,7 @@ static void answer(const struct bench *b, const char *line, uint32_t reason, int
 {
     printf("%s: %u", line, (unsigned)reason);
     for (int i = 0; i < answers && reason == DONZHIKAR_DONE; i++)
-        printf(" %u", (unsigned)donzhikar_value(b->host.values, i));
+        printf(" %u", (unsigned)b->answers[i]);
     printf("\n");
     fflush(stdout);
 }
@@ -202,7 +229,7 @@ static void answer(const struct bench *b, const char *line, uint32_t reason, int
 /* Why a line is not obeyed, or NULL. */
 static const char *objection(struct bench *b, const struct command *command, const uint32_t *numbers)
 {
-    if (command == NULL || (command->run == open_case && case_named(b, numbers[0]) != NULL))
+    if (command == NULL || (command->run == open_case && batch_of(b, numbers[0]) != 0))
         return "?";
     if (b->host.only_reads && command->run != list_slides && command->run != check_drive)
         return "? read-only: list and check are the only commands";
@@ -245,7 +272,9 @@ static int start(struct bench *b, char **words, int count, int only_reads)
 {
     size_t pages = count == 3 ? strtoul(words[1], NULL, 10) : 0, slots = count == 3 ? strtoul(words[2], NULL, 10) : 0;
     uint32_t reason = only_reads ? host_look(&b->host, words[0], pages, slots) : host_start(&b->host, words[0], pages, slots);
-    answer(b, "start", reason, 2);
+    b->answers[0] = b->host.ended;
+    b->answers[1] = b->host.redone;
+    answer(b, "start", reason, MOST_ANSWERS);
     return reason == DONZHIKAR_DONE || (only_reads && reason != DONZHIKAR_ERROR_LENGTHS);
 }
 

@@ -57,8 +57,8 @@ int numbers_of(char letter)
 {
     switch (letter) {
     case 'Z': case 'B': case 'R': return 0;
-    case 'C': case 'A': case 'W': return 1;
-    case 'F': case 'N': case 'D': return 2;
+    case 'C': case 'A': case 'M': case 'W': return 1;
+    case 'F': case 'N': case 'D': case 'T': return 2;
     case 'I': return 3;
     default: return -1;
     }
@@ -76,6 +76,8 @@ uint32_t make(struct instrument *in, struct call made)
     case 'D': return donzhikar_delete(LENT, n[0], n[1]);
     case 'C': return donzhikar_commit(LENT, n[0]);
     case 'A': return donzhikar_abort(LENT, n[0]);
+    case 'M': return donzhikar_mark(LENT, n[0]);
+    case 'T': return donzhikar_return(LENT, n[0], n[1]);
     case 'W': return donzhikar_write_out(LENT, n[0]);
     default: return donzhikar_restart(LENT);
     }
@@ -138,7 +140,7 @@ size_t answer_text(char *text, size_t size, char letter, uint32_t reason, const 
     unsigned first = donzhikar_value(values, 0), second = donzhikar_value(values, 1);
     if (reason != 0)
         return (size_t)snprintf(text, size, "%u", (unsigned)reason);
-    if (letter == 'B' || letter == 'F')
+    if (letter == 'B' || letter == 'F' || letter == 'M')
         return (size_t)snprintf(text, size, "0 %u", first);
     if (letter == 'N' || letter == 'R')
         return (size_t)snprintf(text, size, "0 %u %u", first, second);

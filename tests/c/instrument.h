@@ -19,7 +19,8 @@ struct instrument {
     uint8_t values[DONZHIKAR_VALUES_BYTES];
 };
 
-/* A call by its letter: Z format, B begin, F fetch, N next, I insert, D delete, C commit, A abort, W write-out, R restart. */
+/* A call by its letter: Z format, B begin, F fetch, N next, I insert, D delete, C commit, A abort, M mark, T return to a mark, W write-out,
+ * R restart. */
 struct call {
     char letter;
     uint32_t numbers[3];

@@ -1,4 +1,5 @@
-/* The worked sessions of document 01 over the C interface: one line each, with what was answered and what can be seen in the areas. */
+/* The worked sessions of document 01, and some of 02, over the C interface: one line each, with what was answered and what can be seen in the
+ * areas. */
 #include "instrument.h"
 #include <stdio.h>
 #include <string.h>
@@ -237,6 +238,45 @@ static void unread(void)
     give_back(&in);
 }
 
+/* The third tray of a case is taken back. Its slides are no longer held, so another case files one of them. The first keeps the other trays,
+ * and so does a restart after its commit. 20 to what is no record of the batch. */
+static void three_trays(void)
+{
+    struct instrument in = formatted(PAGES, SLOTS);
+    uint32_t batch = begin(&in);
+    say(&in, "insert 10", 'I', batch, 10, 1);
+    say(&in, "mark", 'M', batch, 0, 0);
+    say(&in, "insert 20", 'I', batch, 20, 2);
+    say(&in, "mark", 'M', batch, 0, 0);
+    uint32_t mark = donzhikar_value(in.values, 0);
+    say(&in, "insert 30", 'I', batch, 30, 3);
+    say(&in, "delete 10", 'D', batch, 10, 0);
+    uint32_t other = begin(&in);
+    say(&in, "another fetches 30", 'F', other, 30, 0);
+    say(&in, "return", 'T', batch, mark, 0);
+    print_record(&in, 7);
+    print_record(&in, 8);
+    say(&in, "another fetches 30", 'F', other, 30, 0);
+    say(&in, "and inserts it", 'I', other, 30, 4);
+    say(&in, "mark", 'M', batch, 0, 0);
+    say(&in, "return again", 'T', batch, mark, 0);
+    say(&in, "mark", 'M', batch, 0, 0);
+    say(&in, "return to another's record", 'T', batch, other, 0);
+    say(&in, "to 0", 'T', batch, 0, 0);
+    say(&in, "to none yet", 'T', batch, 10, 0);
+    say(&in, "commit", 'C', batch, 0, 0);
+    say(&in, "mark", 'M', batch, 0, 0);
+    say(&in, "return", 'T', batch, mark, 0);
+    cut(&in);
+    printf(", cut");
+    say(&in, "restart", 'R', 0, 0, 0);
+    batch = begin(&in);
+    say(&in, "next above 0", 'N', batch, 0, 0);
+    say(&in, "above 10", 'N', batch, 10, 0);
+    say(&in, "above 20", 'N', batch, 20, 0);
+    give_back(&in);
+}
+
 /* Every length of the desk and the values but the right one is refused by 1. Values of 8 bytes become zeros, and by restart a desk of 136. */
 static void wrong_lengths(void)
 {
@@ -284,6 +324,7 @@ int main(void)
     session("a cut", lost);
     session("the console's", console);
     session("key 0", unread);
+    session("three trays", three_trays);
     session("desk and values of other lengths", wrong_lengths);
     return 0;
 }

@@ -134,6 +134,17 @@ static int damage(struct instrument *in, const struct command *command)
     return 1;
 }
 
+/* The same for one of the desk's numbers, most significant byte first. */
+static int damage_desk(struct instrument *in, const struct command *command)
+{
+    const uint64_t *n = command->numbers;
+    if (command->count != 2 || n[0] >= sizeof in->desk / 4 || n[1] > UINT32_MAX)
+        return 0;
+    for (int i = 0; i < 4; i++)
+        in->desk[4 * n[0] + (uint64_t)i] ^= (uint8_t)(n[1] >> (24 - 8 * i));
+    return 1;
+}
+
 /* Carries out one command. Returns 0 where there is no such command. */
 static int run(struct instrument *in, const struct command *command, int64_t *cut, struct area before[AREAS])
 {
@@ -142,6 +153,8 @@ static int run(struct instrument *in, const struct command *command, int64_t *cu
         return lend_lengths(in, command);
     if (command->letter == 'P')
         return damage(in, command);
+    if (command->letter == 'd')
+        return damage_desk(in, command);
     if (command->letter == 'K' && command->count == 1) {
         *cut = command->numbers[0] > INT64_MAX ? INT64_MAX : (int64_t)command->numbers[0];
         return 1;

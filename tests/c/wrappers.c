@@ -38,17 +38,22 @@ static void same(const char *what, uint32_t by_plain, uint32_t by_struct)
 
 static void try_wrappers(void)
 {
-    uint32_t batch, value, key, ended, redone;
+    uint32_t batch, value, key, mark, ended, redone;
     same("format", donzhikar_format(PLAIN), donzhikar_format_in(&r));
     same("begin", donzhikar_begin(PLAIN), donzhikar_begin_in(&r, &batch));
     same("insert", donzhikar_insert(PLAIN, batch, 500, 7), donzhikar_insert_in(&r, batch, 500, 7));
     same("insert again", donzhikar_insert(PLAIN, batch, 500, 7), donzhikar_insert_in(&r, batch, 500, 7));
     same("fetch", donzhikar_fetch(PLAIN, batch, 500), donzhikar_fetch_in(&r, batch, 500, &value));
     same("next", donzhikar_next(PLAIN, batch, 0), donzhikar_next_in(&r, batch, 0, &key, &value));
-    hold(batch == 1 && key == 500 && value == 7, "answers");
+    same("mark", donzhikar_mark(PLAIN, batch), donzhikar_mark_in(&r, batch, &mark));
+    hold(batch == 1 && key == 500 && value == 7 && mark == 2, "answers");
+    same("insert after the mark", donzhikar_insert(PLAIN, batch, 501, 8), donzhikar_insert_in(&r, batch, 501, 8));
+    same("return", donzhikar_return(PLAIN, batch, mark), donzhikar_return_in(&r, batch, mark));
+    same("return to no mark", donzhikar_return(PLAIN, batch, 0), donzhikar_return_in(&r, batch, 0));
+    same("fetch what was taken back", donzhikar_fetch(PLAIN, batch, 501), donzhikar_fetch_in(&r, batch, 501, NULL));
     same("commit", donzhikar_commit(PLAIN, batch), donzhikar_commit_in(&r, batch));
     same("begin", donzhikar_begin(PLAIN), donzhikar_begin_in(&r, NULL));
-    same("delete", donzhikar_delete(PLAIN, 4, 500), donzhikar_delete_in(&r, 4, 500));
+    same("delete", donzhikar_delete(PLAIN, 6, 500), donzhikar_delete_in(&r, 6, 500));
     same("write-out", donzhikar_write_out(PLAIN, 1), donzhikar_write_out_in(&r, 1));
     same("restart", donzhikar_restart(PLAIN), donzhikar_restart_in(&r, &ended, &redone));
     hold(ended == 1 && redone == 0, "restart's answers");
@@ -116,6 +121,28 @@ static void try_loops(void)
     hold(donzhikar_file_in(&r, chosen + 1, 1, end_other, &other) == DONZHIKAR_DONE, "file when the other has ended");
 }
 
+/* Trays of a case: one is refused on the way, one is taken back when it is filed, and then all of them. Another batch may have what was taken
+ * back. */
+static void try_trays(void)
+{
+    const struct donzhikar_slide first[] = { { 10, 1 }, { 11, 1 } }, second[] = { { 20, 2 }, { 10, 2 } }, third[] = { { 30, 3 }, { 31, 3 } };
+    uint32_t batch, other, mark;
+    donzhikar_format_in(&r);
+    donzhikar_begin_in(&r, &batch);
+    hold(donzhikar_file_tray_in(&r, batch, first, 2, NULL) == DONZHIKAR_DONE && donzhikar_pending(&r) == 2, "file a tray");
+    hold(donzhikar_file_tray_in(&r, batch, second, 2, &mark) == DONZHIKAR_ERROR_ALREADY_PRESENT && donzhikar_pending(&r) == 2, "a tray is refused");
+    hold(donzhikar_return_in(&r, batch, mark) == DONZHIKAR_DONE && donzhikar_pending(&r) == 2, "it was taken back");
+    hold(donzhikar_file_tray_in(&r, batch, third, 2, &mark) == DONZHIKAR_DONE && donzhikar_pending(&r) == 4, "file another");
+    hold(donzhikar_return_in(&r, batch, mark) == DONZHIKAR_DONE && donzhikar_pending(&r) == 2, "take it back");
+    hold(donzhikar_file_in(&r, third, 1, NULL, NULL) == DONZHIKAR_DONE, "another case files from it");
+    donzhikar_begin_in(&r, &other);
+    hold(donzhikar_return_in(&r, other, mark) == DONZHIKAR_ERROR_NO_SUCH_MARK, "another batch's mark");
+    hold(donzhikar_file_tray_in(&r, 0, third, 2, &mark) == DONZHIKAR_ERROR_NO_SUCH_BATCH && mark == 0, "a tray of no batch");
+    hold(donzhikar_return_in(&r, batch, batch) == DONZHIKAR_DONE && donzhikar_pending(&r) == 0, "take all back");
+    hold(donzhikar_file_tray_in(&r, batch, second, 2, NULL) == DONZHIKAR_DONE && donzhikar_commit_in(&r, batch) == DONZHIKAR_DONE, "file and commit");
+    hold(donzhikar_fetch_in(&r, other, 11, NULL) == DONZHIKAR_ERROR_ABSENT && donzhikar_fetch_in(&r, other, 20, NULL) == DONZHIKAR_DONE, "what was kept");
+}
+
 /* A restart that runs short in the logs that are lent, and not in longer ones: half of the slots are held back. */
 static void try_coming_back(void)
 {
@@ -138,8 +165,8 @@ static void try_coming_back(void)
 static void try_texts(void)
 {
     const char *none = donzhikar_text(8);
-    for (uint32_t reason = 0; reason <= 20; reason++) {
-        const int known = reason <= 7 || (reason >= 11 && reason <= 19);
+    for (uint32_t reason = 0; reason <= 21; reason++) {
+        const int known = reason <= 7 || (reason >= 11 && reason <= 20);
         hold((strcmp(donzhikar_text(reason), none) != 0) == known, "text");
     }
     hold(strcmp(DONZHIKAR_VERSION, "") != 0, "version");
@@ -155,6 +182,7 @@ int main(void)
     r.slots = SLOTS;
     try_wrappers();
     try_loops();
+    try_trays();
     try_coming_back();
     try_texts();
     return failures != 0;

@@ -7,6 +7,7 @@
 
 enum { WORK_PAGES, STABLE_PAGES, WORK_LOG, STABLE_LOG, DESK, VALUES, PARTS };
 enum { DESK_BYTES = 136, ROW_BYTES = 16, ROWS = 8, WRITTEN_AT = 128, LARGE = 800 * 128, LARGEST = 896 * 128, MUCH_STACK = 120 * 1024, OFTEN = 9 };
+enum { LONGEST = 16384 * 144 };
 
 struct part {
     uint8_t *bytes;
@@ -23,10 +24,15 @@ enum deed {
     READS_BEFORE,
     PUTS_BACK,   /* turns a bit of part `with`, and turns it back */
     CUTS,        /* leaves 14 bits of the second value */
+    GIVES_BATCH, /* gives the batch's number as the first value */
+    TAKES_BACK,  /* leaves the working areas and the desk as they were */
+    ENDS,        /* aborts the batch besides */
     /* And what it does before: */
     DIGS,        /* takes much more stack */
     SHARES,      /* works on pages of its own, which all calls share */
-    REPEATS      /* makes the call many times */
+    REPEATS,     /* makes the call many times */
+    LOWERS,      /* returns to the batch's record before the mark */
+    COUNTS       /* undoes as many updates as the batch has made since the mark, also where some are undone already */
 };
 
 struct fault {
@@ -43,8 +49,14 @@ struct fault {
     /* Only where the last record of the stable log is to be redone, and refusal 5 goes by entries that are out of order, or by none. */
     enum { ANY_RECORD, KEY_PASSED_BY, MOVED_OUT_OF_ORDER, MERGE_OF_NONE } last;
     /* Only where the call is given key 0; only where a fetch of it answers `with` besides, which so is asked first; only where the log takes
-     * a deletion of key 0 back. */
-    enum { ANY_KEY, KEY_0, KEY_0_LATE, KEY_0_PUT_BACK } key;
+     * a deletion of key 0 back; only where another open batch has taken back an update of the key. */
+    enum { ANY_KEY, KEY_0, KEY_0_LATE, KEY_0_PUT_BACK, KEY_FREED } key;
+    /* Only where a return is given the number of such a record: the batch's own begin, an undo of the batch, a record of another batch, a
+     * change of the tree, none in the log; any that is not the batch's. */
+    enum { ANY_MARK, ITS_BEGIN, ITS_UNDO, OTHER_BATCH, OF_THE_TREE, NO_RECORD, NOT_ITS } mark;
+    /* Only where the call has written nothing; only where the batch has its abort mark. */
+    enum { ANY_WRITING, NOTHING_WRITTEN } writing;
+    enum { ANY_BATCH, ABORT_MARKED } batch;
 };
 
 #define ALWAYS .least_pages = 0
@@ -107,6 +119,27 @@ static const struct fault faults[] = {
     {"key-0-not-deleted", 'D', 0, ANSWERS, 7, .key = KEY_0},
     {"key-0-not-put-back-by-restart", 'R', 0, ANSWERS, 4, .key = KEY_0_PUT_BACK},
     {"key-0-not-put-back-by-abort", 'A', 0, ANSWERS, 19, .key = KEY_0_PUT_BACK},
+    {"mark-answers-the-batch", 'M', 0, GIVES_BATCH, 0, ALWAYS},
+    {"mark-writes-a-page-and-puts-it-back", 'M', 0, PUTS_BACK, WORK_PAGES, ALWAYS},
+    {"mark-leaves-another-desk", 'M', 0, TURNS, DESK, ALWAYS},
+    {"mark-without-batch-answers-20", 'M', 12, ANSWERS, 20, ALWAYS},
+    {"mark-refused-after-a-7", 'M', 0, ANSWERS, 12, .batch = ABORT_MARKED},
+    {"return-undoes-nothing", 'T', 0, TAKES_BACK, 0, ALWAYS},
+    {"return-undoes-the-mark-too", 'T', 0, LOWERS, 0, ALWAYS},
+    {"return-undoes-by-count", 'T', 0, COUNTS, 0, ALWAYS},
+    {"return-ends-the-batch", 'T', 0, ENDS, 0, ALWAYS},
+    {"return-changes-the-stable-log", 'T', 0, TURNS, STABLE_LOG, ALWAYS},
+    {"return-of-nothing-writes-the-log", 'T', 0, TURNS, WORK_LOG, .writing = NOTHING_WRITTEN},
+    {"return-of-nothing-leaves-another-desk", 'T', 0, TURNS, DESK, .writing = NOTHING_WRITTEN},
+    {"return-refused-after-a-7", 'T', 0, ANSWERS, 12, .batch = ABORT_MARKED},
+    {"return-refused-to-the-begin", 'T', 0, ANSWERS, 20, .mark = ITS_BEGIN},
+    {"return-refused-to-an-undo", 'T', 0, ANSWERS, 20, .mark = ITS_UNDO},
+    {"return-to-another-batchs-record", 'T', 20, ANSWERS, 0, .mark = OTHER_BATCH},
+    {"return-to-a-change-of-the-tree", 'T', 20, ANSWERS, 0, .mark = OF_THE_TREE},
+    {"return-to-no-record", 'T', 20, ANSWERS, 0, .mark = NO_RECORD},
+    {"no-mark-asked-before-12", 'T', 12, ANSWERS, 20, .mark = NOT_ITS},
+    {"no-mark-asked-before-11", 'T', 11, ANSWERS, 20, .mark = NOT_ITS},
+    {"freed-key-still-held", 'F', 16, ANSWERS, 14, .key = KEY_FREED},
     {"largest-fetch-is-slow", 'F', 0, REPEATS, 0, .least_pages = LARGEST},
 };
 
@@ -162,7 +195,7 @@ static int room_is(const struct fault *f, const struct part parts[PARTS])
 }
 
 enum { PAGE_BYTES = 128, PAGE_ENTRIES = 16, RECORD_BYTES = 144, RECORD_ENTRIES = 32, ENTRY_BYTES = 8, MOST_ENTRIES = 14 };
-enum { INSERT = 2, UNDO_DELETE = 5, MERGE = 12, REDISTRIBUTE = 13 };
+enum { INSERT = 2, DELETE = 3, UNDO_INSERT = 4, UNDO_DELETE = 5, ABORT_MARK = 7, MERGE = 12, REDISTRIBUTE = 13 };
 
 /* The keys of a page's or a record's entries, as far as the count says. */
 struct keys {
@@ -281,30 +314,169 @@ static int times_before(char letter, const struct part parts[PARTS])
         size_t work_log_length, uint8_t *stable_log, size_t stable_log_length, uint8_t *desk, size_t desk_given, uint8_t *values,         \
         size_t values_length
 
+#define LENT_ON p[0].bytes, p[0].length, p[1].bytes, p[1].length, p[2].bytes, p[2].length, p[3].bytes, p[3].length, p[4].bytes, p[4].length
+
 uint32_t right_fetch(LENT, uint32_t batch, uint32_t key);
+uint32_t right_abort(LENT, uint32_t batch);
 
 /* What a fetch on these parts answers, which changes none of them. */
 static uint32_t fetched(const struct part p[PARTS], uint32_t batch, uint32_t key)
 {
     uint8_t values[8];
-    return right_fetch(p[0].bytes, p[0].length, p[1].bytes, p[1].length, p[2].bytes, p[2].length, p[3].bytes, p[3].length, p[4].bytes,
-        p[4].length, values, sizeof values, batch, key);
+    return right_fetch(LENT_ON, values, sizeof values, batch, key);
+}
+
+static uint32_t ended(const struct part p[PARTS], uint32_t batch)
+{
+    uint8_t values[8];
+    return right_abort(LENT_ON, values, sizeof values, batch);
+}
+
+/* A record's kind, batch, previous and key. */
+struct told {
+    uint32_t kind, batch, previous, key;
+};
+
+/* What the record with this number tells, zeros where there is none. */
+static struct told told_by(const struct part *log, uint32_t number)
+{
+    const uint8_t *record = log->bytes + (size_t)(number - 1) * RECORD_BYTES;
+    if (number == 0 || (size_t)number * RECORD_BYTES > log->length)
+        return (struct told){0, 0, 0, 0};
+    return (struct told){record[0] >> 4, number_at(record + 8), number_at(record + 12), number_at(record + 20)};
+}
+
+static int is_undo(struct told record)
+{
+    return record.kind == UNDO_INSERT || record.kind == UNDO_DELETE;
+}
+
+static int is_update(struct told record)
+{
+    return record.kind == INSERT || record.kind == DELETE;
 }
 
 static int puts_back_0(const struct part *log)
 {
-    for (size_t at = 0; at < log->length && log->bytes[at] >> 4 != 0; at += RECORD_BYTES)
-        if (log->bytes[at] >> 4 == UNDO_DELETE && number_at(log->bytes + at + 20) == 0)
+    for (uint32_t number = 1; told_by(log, number).kind != 0; number++)
+        if (told_by(log, number).kind == UNDO_DELETE && told_by(log, number).key == 0)
             return 1;
     return 0;
 }
 
-/* By the numbers that the call was given: the batch is the first, the key the second. */
+static int is_open(const struct part *desk, uint32_t batch)
+{
+    for (size_t row = 0; row < ROWS && desk->length == DESK_BYTES; row++)
+        if (batch != 0 && number_at(desk->bytes + row * ROW_BYTES) == batch)
+            return 1;
+    return 0;
+}
+
+static int freed_by_another(const struct part parts[PARTS], uint32_t batch, uint32_t key)
+{
+    for (uint32_t number = 1; told_by(&parts[WORK_LOG], number).kind != 0; number++) {
+        struct told record = told_by(&parts[WORK_LOG], number);
+        if (is_undo(record) && record.key == key && record.batch != batch && is_open(&parts[DESK], record.batch))
+            return 1;
+    }
+    return 0;
+}
+
+/* By the numbers that the call was given: the batch is the first, the key or the mark the second. */
 static int key_is(const struct fault *f, const struct part parts[PARTS], const uint32_t numbers[])
 {
     if (f->key == KEY_0_PUT_BACK)
         return puts_back_0(&parts[WORK_LOG]);
+    if (f->key == KEY_FREED)
+        return freed_by_another(parts, numbers[1], numbers[2]);
     return f->key == ANY_KEY || (numbers[2] == 0 && (f->key == KEY_0 || fetched(parts, numbers[1], 0) == f->with));
+}
+
+static int mark_is(const struct fault *f, const struct part parts[PARTS], const uint32_t numbers[])
+{
+    uint32_t batch = numbers[1], mark = numbers[2];
+    struct told record = told_by(&parts[WORK_LOG], mark);
+    switch (f->mark) {
+    case ITS_BEGIN: return mark == batch;
+    case ITS_UNDO: return is_undo(record) && record.batch == batch;
+    case OTHER_BATCH: return record.batch != 0 && record.batch != batch;
+    case OF_THE_TREE: return record.kind != 0 && record.batch == 0;
+    case NO_RECORD: return record.kind == 0;
+    case NOT_ITS: return record.kind == 0 || record.batch != batch;
+    default: return 1;
+    }
+}
+
+static int batch_is(const struct fault *f, const struct part parts[PARTS], uint32_t batch)
+{
+    for (uint32_t number = 1; f->batch == ABORT_MARKED && told_by(&parts[WORK_LOG], number).kind != 0; number++) {
+        struct told record = told_by(&parts[WORK_LOG], number);
+        if (record.kind == ABORT_MARK && record.batch == batch)
+            return 1;
+    }
+    return f->batch == ANY_BATCH;
+}
+
+/* The working areas and the desk as they were before the call, for a fault that needs them: the others do not look at the areas before the call
+ * does. */
+static uint8_t pages_before[LARGEST], log_before[LONGEST], desk_before[DESK_BYTES];
+
+static int fits_before(const struct part parts[PARTS])
+{
+    return parts[WORK_PAGES].length <= LARGEST && parts[WORK_LOG].length <= LONGEST && parts[DESK].length == DESK_BYTES;
+}
+
+static void keep(const struct part parts[PARTS])
+{
+    const struct fault *f = fault();
+    if (f == NULL || (f->deed != TAKES_BACK && f->writing == ANY_WRITING) || !fits_before(parts))
+        return;
+    memcpy(pages_before, parts[WORK_PAGES].bytes, parts[WORK_PAGES].length);
+    memcpy(log_before, parts[WORK_LOG].bytes, parts[WORK_LOG].length);
+    memcpy(desk_before, parts[DESK].bytes, parts[DESK].length);
+}
+
+static void take_back(const struct part parts[PARTS])
+{
+    memcpy(parts[WORK_PAGES].bytes, pages_before, parts[WORK_PAGES].length);
+    memcpy(parts[WORK_LOG].bytes, log_before, parts[WORK_LOG].length);
+    memcpy(parts[DESK].bytes, desk_before, parts[DESK].length);
+}
+
+static int writing_is(const struct fault *f, const struct part parts[PARTS])
+{
+    return f->writing == ANY_WRITING || memcmp(parts[DESK].bytes, desk_before, DESK_BYTES) == 0;
+}
+
+/* The update that is next to undo once this one is undone. */
+static uint32_t pending_before(const struct part *log, uint32_t update)
+{
+    uint32_t previous = told_by(log, update).previous;
+    struct told record = told_by(log, previous);
+    return is_update(record) ? previous : is_undo(record) ? record.previous : 0;
+}
+
+static uint32_t mark_by_count(const struct part parts[PARTS], uint32_t batch, uint32_t mark)
+{
+    const struct part *log = &parts[WORK_LOG], *desk = &parts[DESK];
+    uint32_t update = 0;
+    for (size_t row = 0; row < ROWS && desk->length == DESK_BYTES; row++)
+        if (number_at(desk->bytes + row * ROW_BYTES) == batch)
+            update = number_at(desk->bytes + row * ROW_BYTES + 8);
+    for (uint32_t number = mark + 1; told_by(log, number).kind != 0; number++)
+        if (told_by(log, number).batch == batch && is_update(told_by(log, number)))
+            update = pending_before(log, update);
+    return update == 0 ? batch : update;
+}
+
+/* The mark that the right return gets, so that it undoes what the wrong one would. */
+static uint32_t mark_for(const struct part parts[PARTS], uint32_t batch, uint32_t mark)
+{
+    struct told record = told_by(&parts[WORK_LOG], mark);
+    enum deed deed = fault() == NULL || record.batch != batch || batch == 0 ? ANSWERS : fault()->deed;
+    if (deed == LOWERS && is_update(record))
+        return record.previous;
+    return deed == COUNTS ? mark_by_count(parts, batch, mark) : mark;
 }
 
 /* What the wrong call returns where the right one has returned `reason` and left these parts. */
@@ -314,10 +486,14 @@ static uint32_t spoiled(char letter, uint32_t reason, const struct part parts[PA
     if (shares(letter, &parts[WORK_PAGES]))
         memcpy(parts[WORK_PAGES].bytes, shared, parts[WORK_PAGES].length);
     if (!concerns(f, letter, parts) || f->when != reason || !room_is(f, parts) || !last_is(f, parts)
-        || !key_is(f, parts, numbers))
+        || !key_is(f, parts, numbers) || !mark_is(f, parts, numbers) || !writing_is(f, parts) || !batch_is(f, parts, numbers[1]))
         return reason;
     if (f->deed == ANSWERS)
         return f->with;
+    if (f->deed == TAKES_BACK)
+        take_back(parts);
+    if (f->deed == ENDS)
+        return ended(parts, numbers[1]);
     const struct part *part = &parts[f->with];
     volatile uint8_t *bytes = part->bytes;
     if (f->deed == TURNS && part->length > 0)
@@ -330,6 +506,8 @@ static uint32_t spoiled(char letter, uint32_t reason, const struct part parts[PA
         (void)bytes[-1];
     for (int i = 0; i < 2 && f->deed == PUTS_BACK; i++)
         bytes[0] ^= 1;
+    for (size_t i = 0; i < 4 && f->deed == GIVES_BATCH; i++)
+        parts[VALUES].bytes[i] = (uint8_t)(numbers[1] >> (24 - 8 * i));
     if (f->deed == CUTS)
         parts[VALUES].bytes[4] = parts[VALUES].bytes[5] = 0, parts[VALUES].bytes[6] &= 0x3F;
     return reason;
@@ -346,6 +524,7 @@ static uint32_t spoiled(char letter, uint32_t reason, const struct part parts[PA
         const struct part parts[PARTS] = {{work_pages, work_pages_length}, {stable_pages, stable_pages_length},                          \
             {work_log, work_log_length}, {stable_log, stable_log_length}, {desk, desk_given}, {values, values_length}};                   \
         const uint32_t numbers[] = {0 given, 0, 0};                                                                                      \
+        keep(parts);                                                                                                                     \
         for (int times = times_before(letter, parts); times > 0; times--)                                                                \
             right_##name(PASSED(letter) given);                                                                                          \
         return spoiled(letter, right_##name(PASSED(letter) given), parts, numbers);                                                      \
@@ -368,5 +547,7 @@ WRONG('I', insert, TAKES_3, GIVES_3)
 WRONG('D', delete, TAKES_2, GIVES_2)
 WRONG('C', commit, TAKES_1, GIVES_1)
 WRONG('A', abort, TAKES_1, GIVES_1)
+WRONG('M', mark, TAKES_1, GIVES_1)
+WRONG('T', return, TAKES_2, GIVES_1 COMMA mark_for(parts, a, b))
 WRONG('W', write_out, TAKES_1, GIVES_1)
 WRONG('R', restart, NONE, NONE)

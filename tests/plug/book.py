@@ -1,4 +1,6 @@
-"""01's plain book over the example host's commands: the slides, and a sheet for each open case. It knows nothing of pages or logs."""
+"""01's plain book over the example host's commands: the slides, and a sheet for each open case, tray by tray. It knows nothing of pages or
+logs."""
+from itertools import chain
 
 CASE = 100  # a slide's value is its case's number times this, and a number within the case
 
@@ -16,11 +18,15 @@ class Book:
         if not answer.startswith('0'):
             return
         if name == 'open':
-            self.sheets[numbers[0]] = []
+            self.sheets[numbers[0]] = [[]]
         elif name == 'file':
-            self.sheets[numbers[0]].append((numbers[1], numbers[2]))
+            self.sheets[numbers[0]][-1].append((numbers[1], numbers[2]))
         elif name == 'remove':
-            self.sheets[numbers[0]].append((numbers[1], None))
+            self.sheets[numbers[0]][-1].append((numbers[1], None))
+        elif name == 'tray':
+            self.sheets[numbers[0]].append([])
+        elif name == 'take-back':
+            self.sheets[numbers[0]][-1].clear()
         elif name == 'commit':
             self.slides = carried_out(self.slides, self.sheets.pop(numbers[0]))
         elif name == 'cancel':
@@ -43,7 +49,7 @@ class Book:
 
 def carried_out(slides, sheet):
     after = dict(slides)
-    for key, value in sheet:
+    for key, value in chain.from_iterable(sheet):
         if value is None:
             after.pop(key, None)
         else:

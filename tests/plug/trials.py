@@ -108,7 +108,7 @@ def worked(register, seed):
     wrong = judged(book, register.run(['list']))
     if wrong:
         raise ValueError(wrong)
-    return book, register.image(), [*work.each_page(), *work.commands(20, removing=0.5)]
+    return book, register.image(), [*work.each_page(), *work.jammed(), *work.commands(20, removing=0.5)]
 
 
 def each_event(register, book, image, commands, first=1, last=None, stride=1, seeds=1):

@@ -1,4 +1,5 @@
-"""A technician's work, drawn from a seed: several open cases, slides filed and removed, cases committed and cancelled, pages written out."""
+"""A technician's work, drawn from a seed: several open cases, slides filed and removed, trays begun and taken back, cases committed and
+cancelled, pages written out."""
 
 from plug.book import CASE
 
@@ -29,6 +30,8 @@ class Work:
         return lines
 
     def step(self, case, left, removing):
+        if self.random.random() < 0.2:
+            return f'{self.random.choice(("tray", "take-back"))} {case}'
         if left[case] == 0:
             del left[case]
             return f'commit {case}' if self.random.random() < 0.75 else f'cancel {case}'
@@ -53,3 +56,19 @@ class Work:
             lines.append(f'remove {case} {key}' if turn % 2 else f'file {case} {key} {case * CASE + turn}')
             lines.append(f'write-out {page}')
         return [*lines, f'commit {case}']
+
+    def jammed(self):
+        """A case of two trays. The second takes out a slide of the first, is taken back, and filed with another slide."""
+        self.last_case += 1
+        case = self.last_case
+        kept, jammed, other = self.random.sample(sorted(set(self.keys) - self.likely), 3)
+        return [
+            f'open {case}',
+            f'file {case} {kept} {case * CASE}',
+            f'tray {case}',
+            f'file {case} {jammed} {case * CASE + 1}',
+            f'remove {case} {kept}',
+            f'take-back {case}',
+            f'file {case} {other} {case * CASE + 2}',
+            f'commit {case}',
+        ]

@@ -1,4 +1,4 @@
-// The calls that end a batch, or store: commit, abort and write-out.
+// The calls that end a batch, take some of it back, or store: commit, abort, mark, return and write-out.
 use area_store::Span;
 use area_store::Stores;
 use area_store::store_first;
@@ -6,11 +6,14 @@ use area_store::store_slots;
 use call_reply::Reply;
 use call_reply::refused;
 use call_slides::live_row;
+use call_slides::open_row;
 use call_undo::abort_run;
+use call_undo::undo_above;
 use codec_desk::closed;
 use def_layout::Desk;
 use def_model::Answer;
 use def_model::Refusal;
+use log_pending::is_record_of;
 use sound_register::Standing;
 use tree_write::Run;
 use tree_write::note;
@@ -88,6 +91,59 @@ pub fn abort_in(
     Reply {
         answer: Answer::Done,
         desk: desk.with_logged(u.logged),
+    }
+}
+
+// 02, U2: "ask for the number of its latest log record as a mark".
+pub fn mark_in(d: Desk, b: u32) -> Reply
+    ensures { λ r.
+        ⌜ ((n m budget : ℕ) (wp sp wl sl : List ℕ) (st : Standing) → Given n m wp sp wl sl d st
+        → Replies (calls.take-mark b) (lent wp sp wl sl) d budget r (lent wp sp wl sl)) ⌝ }
+{
+    let i = open_row(d, b);
+    if i == 8 {
+        return refused(Refusal::NoBatch, d);
+    }
+    let last = d.rows[i].last;
+    Reply {
+        answer: Answer::Number(last),
+        desk: d,
+    }
+}
+
+// "and later undo every pending update it made after that mark while staying open".
+pub fn return_in(
+    wp: &mut [u8],
+    wl: &mut [u8],
+    n: usize,
+    m: usize,
+    d: Desk,
+    b: u32,
+    mark: u32,
+) -> Reply
+    requires { ⌜ HasAreas n m (now wp) (now wl) ⌝ }
+    ensures { λ r.
+        ⌜ ((budget : ℕ) (sp sl : List ℕ) (st : Standing) → Given n m (now (wp .entry)) sp (now (wl .entry)) sl d st
+        → Replies (calls.return-to b mark) (lent (now (wp .entry)) sp (now (wl .entry)) sl) d budget r (lent (now (wp .exit)) sp (now (wl .exit)) sl)) ⌝ }
+{
+    let i = open_row(d, b);
+    if i == 8 {
+        return refused(Refusal::NoBatch, d);
+    }
+    if !is_record_of(wl, m, d.logged, b, mark) {
+        return refused(Refusal::NoMark, d);
+    }
+    let t = Run {
+        logged: d.logged,
+        stop: 0,
+    };
+    let row = d.rows[i];
+    let x = undo_above(wp, wl, n, m, t, mark, row);
+    let left = x.row;
+    let run = x.run;
+    Reply {
+        answer: Answer::Done,
+        desk: d.with_row(i, left).with_logged(run.logged),
     }
 }
 

@@ -17,8 +17,8 @@ use Rattle.def_model.specs.declared.Answer.the-variants.{Done, Refused}
 use Rattle.def_model.specs.Answers.{first-broken}
 use Rattle.def_model.specs.Areas.{Areas}
 use Rattle.def_model.specs.Sound.{sound}
-use Rattle.def_model.specs.Calls.{begin-checks, fetch-checks, next-checks, insert-checks, delete-checks, commit-checks, abort-checks, write-out-checks}
-use Rattle.def_model.specs.OnBytes.{Call, Lent, Result, format, restart, begin, fetch, next, insert, delete, commit, abort, write-out, lengths-ok, refused-desk, read-areas}
+use Rattle.def_model.specs.Calls.{begin-checks, fetch-checks, next-checks, insert-checks, delete-checks, commit-checks, abort-checks, mark-checks, return-checks, write-out-checks}
+use Rattle.def_model.specs.OnBytes.{Call, Lent, Result, format, restart, begin, fetch, next, insert, delete, commit, abort, write-out, lengths-ok, refused-desk, read-areas, take-mark, return-to}
 use Rattle.law_areas.specs.Pages.{read-pages-length}
 use Rattle.area_lengths.specs.Lent.{lent, Sized, lengths-numbers}
 use Rattle.area_format.specs.Formatted.{Formatted}
@@ -39,6 +39,8 @@ names (delete b k) = some 0
 names (commit b) = some 0
 names (abort b) = some 0
 names (write-out p) = some p
+names (take-mark b) = some 0
+names (return-to b m) = some 0
 
 pub insert-names : (b k v : ℕ) → k ≢ 0 → names (insert b k v) ≡ some 0
 insert-names b k v nz = rw (neq-false nz)
@@ -55,7 +57,7 @@ module _ (a : Areas) (d : Desk) (p : ℕ) where
   of c e k u = record { kept = k; past = λ h q. let z = some-inj e in absurd (omega arith); unsound = λ h bad. u bad }
 
   first : (c : Call) → names c ≡ some p → First a d p c
-  unfolding refused-desk first-broken begin-checks fetch-checks next-checks insert-checks delete-checks commit-checks abort-checks write-out-checks
+  unfolding refused-desk first-broken begin-checks fetch-checks next-checks insert-checks delete-checks commit-checks abort-checks mark-checks return-checks write-out-checks
   first format e = none-some e
   first restart e = none-some e
   first begin e = of begin e refl (λ bad. rw bad)
@@ -69,6 +71,8 @@ module _ (a : Areas) (d : Desk) (p : ℕ) where
   first (delete b k) e = of (delete b k) e refl (λ bad. rw bad)
   first (commit b) e = of (commit b) e refl (λ bad. rw bad)
   first (abort b) e = of (abort b) e refl (λ bad. rw bad)
+  first (take-mark b) e = of (take-mark b) e refl (λ bad. rw bad)
+  first (return-to b m) e = of (return-to b m) e refl (λ bad. rw bad)
   first (write-out q) e =
       let s = some-inj e in
       record {

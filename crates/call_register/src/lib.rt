@@ -3,6 +3,8 @@ use area_format::format as formatted;
 use area_lengths::lengths_ok;
 use call_finish::abort_in;
 use call_finish::commit_in;
+use call_finish::mark_in;
+use call_finish::return_in;
 use call_finish::write_out_in;
 use call_reply::Reply;
 use call_reply::refused;
@@ -197,6 +199,38 @@ pub fn abort(wp: &mut [u8], sp: &[u8], wl: &mut [u8], sl: &[u8], d: Desk, b: u32
     }
     let st = e.standing;
     abort_in(wp, wl, e.pages, e.slots, d, st, b)
+}
+
+// A batch's latest record.
+pub fn mark(wp: &[u8], sp: &[u8], wl: &[u8], sl: &[u8], d: Desk, b: u32) -> Reply
+    ensures { λ r. ⌜ ((budget : ℕ) → Replies (calls.take-mark b) (at-entry wp sp wl sl) d budget r (at-exit wp sp wl sl)) ⌝ }
+{
+    let e = enter(wp, sp, wl, sl, d, 0);
+    if !e.ok {
+        let why = e.why;
+        return refused(why, d);
+    }
+    mark_in(d, b)
+}
+
+// A batch's updates after a mark go.
+pub fn return_to(
+    wp: &mut [u8],
+    sp: &[u8],
+    wl: &mut [u8],
+    sl: &[u8],
+    d: Desk,
+    b: u32,
+    mark: u32,
+) -> Reply
+    ensures { λ r. ⌜ ((budget : ℕ) → Replies (calls.return-to b mark) (at-entry wp sp wl sl) d budget r (at-exit wp sp wl sl)) ⌝ }
+{
+    let e = enter(wp, sp, wl, sl, d, 0);
+    if !e.ok {
+        let why = e.why;
+        return refused(why, d);
+    }
+    return_in(wp, wl, e.pages, e.slots, d, b, mark)
 }
 
 // The log and then one page are stored: as many stores as the budget has.

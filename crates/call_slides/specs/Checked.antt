@@ -20,12 +20,12 @@ use Rattle.def_model.specs.Fit.{found}
 use Rattle.def_model.specs.Lookup.{fetched, next-above}
 use Rattle.def_model.specs.Areas.{Areas, store-page}
 use Rattle.def_model.specs.Answers.{Check, first-broken}
-use Rattle.def_model.specs.Batches.{find-batch, unmarked}
+use Rattle.def_model.specs.Batches.{find-batch, unmarked, is-record-of}
 use Rattle.def_model.specs.Pending.{held, held-between}
 use Rattle.def_model.specs.Update.{emit, put-record, remove-record}
 use Rattle.def_model.specs.Sound.{sound, work-pages, work-log, work-slots, work-open, begin-has-slots}
-use Rattle.def_model.specs.Calls.{run-of, kept-run, stored-run, unchanged, is-none, value-or, last-record, next-limit, next-answer, abort-of, begin-checks, begin-by, begin-batch, fetch-checks, fetch-by, fetch-slide, next-checks, next-slide-by, next-slide, insert-checks, insert-by, insert-slide, delete-checks, delete-by, delete-slide, commit-checks, commit-by, commit-batch, abort-checks, abort-by, abort-batch, write-out-checks, write-out-by, write-out-page}
-use Rattle.def_model.specs.OnBytes.{Call, format, restart, begin, fetch, next, insert, delete, commit, abort, write-out, outcome}
+use Rattle.def_model.specs.Calls.{run-of, kept-run, stored-run, unchanged, is-none, value-or, last-record, next-limit, next-answer, abort-of, begin-checks, begin-by, begin-batch, fetch-checks, fetch-by, fetch-slide, next-checks, next-slide-by, next-slide, insert-checks, insert-by, insert-slide, delete-checks, delete-by, delete-slide, commit-checks, commit-by, commit-batch, abort-checks, abort-by, abort-batch, write-out-checks, write-out-by, write-out-page, mark-checks, latest-by, mark-batch, return-checks, return-by, return-batch, return-of}
+use Rattle.def_model.specs.OnBytes.{Call, format, restart, begin, fetch, next, insert, delete, commit, abort, write-out, outcome, take-mark, return-to}
 
 -- A call's checks. (Format has none, and restart's are on stable areas, which need not be sound.)
 abbrev pub checks : Call → Areas → Desk → List Check
@@ -39,10 +39,12 @@ checks (delete b k) a d = delete-checks b k a d
 checks (commit b) a d = commit-checks b a d
 checks (abort b) a d = abort-checks b a d
 checks (write-out p) a d = write-out-checks p a d
+checks (take-mark b) a d = mark-checks b a d
+checks (return-to b m) a d = return-checks b m a d
 
 module _ (a : Areas) (d : Desk) where
   pub refused-first : (c : Call) (r : Refusal) → first-broken (checks c a d) ≡ some r → outcome c a d ≡ unchanged (Refused r) a d
-  unfolding outcome first-broken begin-batch begin-by fetch-slide fetch-by next-slide next-slide-by insert-slide insert-by delete-slide delete-by commit-batch commit-by abort-batch abort-by write-out-page write-out-by
+  unfolding outcome first-broken begin-batch begin-by fetch-slide fetch-by next-slide next-slide-by insert-slide insert-by delete-slide delete-by commit-batch commit-by abort-batch abort-by mark-batch latest-by return-batch return-by write-out-page write-out-by
   refused-first format r e = none-some e
   refused-first restart r e = none-some e
   refused-first begin r e = ap (λ (o : Option Refusal). begin-by o a d) e
@@ -53,6 +55,8 @@ module _ (a : Areas) (d : Desk) where
   refused-first (commit b) r e = ap (λ (o : Option Refusal). commit-by o b a d) e
   refused-first (abort b) r e = ap (λ (o : Option Refusal). abort-by o b a d) e
   refused-first (write-out p) r e = ap (λ (o : Option Refusal). write-out-by o p a d) e
+  refused-first (take-mark b) r e = ap (λ (o : Option Refusal). latest-by o b a d) e
+  refused-first (return-to b m) r e = ap (λ (o : Option Refusal). return-by o b m a d) e
 
   -- ---- insert and delete, whose checks are told to be whole
 
@@ -82,6 +86,15 @@ module _ (a : Areas) (d : Desk) where
           → next-slide b k a d ≡ unchanged (Pair (x .key) (x .val)) a d
       unfolding next-slide next-slide-by next-checks first-broken is-none next-answer
       next-goes x f e = rw (ok, is-open, f, e) (rw f)
+
+    module _ (b : ℕ) (is-open : is-none (find-batch b (work-open a)) ≡ false) where
+      pub mark-goes : mark-batch b a d ≡ unchanged (Number (last-record b a)) a d
+      unfolding mark-batch latest-by mark-checks first-broken
+      mark-goes = rw (ok, is-open)
+
+      pub return-goes : (m : ℕ) → is-record-of b m (work-log a) ≡ true → return-of b m a .stop ≡ 0 → return-batch b m a d ≡ kept-run Done a (return-of b m a) d
+      unfolding return-batch return-by return-checks first-broken
+      return-goes m e f = rw (ok, is-open, e, eq-true (return-of b m a .stop) 0 f)
 
     module _ (b : ℕ) (live : unmarked (find-batch b (work-open a)) ≡ true) where
       pub commit-goes : commit-batch b a d ≡ stored-run Done a (emit (batch-row records.commit b (last-record b a)) (run-of a)) d []

@@ -42,7 +42,7 @@ ghost use Rattle.call_slides.specs.Given.{Given, open-place, Live};
 ghost use Rattle.call_slides.specs.Changes.{Bars};
 
 // The place of an open batch's row, or 8. Batch 0 is never open.
-fn open_row(d: Desk, b: u32) -> usize
+pub fn open_row(d: Desk, b: u32) -> usize
     ensures { λ r. ⌜ (r ≡ open-place b (d .rows)) × (r ≤ 8) ⌝ }
 {
     if b == 0 {

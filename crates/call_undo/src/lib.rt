@@ -32,6 +32,7 @@ ghost use Rattle.law_bytes.specs.DeskRows.{LowRows};
 ghost use Rattle.log_chain.specs.Shown.{marks-of};
 ghost use Rattle.tree_write.specs.Shows.{Shows, Does};
 ghost use Rattle.call_undo.specs.Grown.{Grown};
+ghost use Rattle.call_undo.specs.Lines.{ReturnsTurn};
 ghost use Rattle.call_undo.specs.Marking.{MarksTurn, Starts, MarkedAll};
 ghost use Rattle.call_undo.specs.Ending.{EndsTurn};
 ghost use Rattle.call_undo.specs.Due.{Due, Top, newer-of};
@@ -70,32 +71,46 @@ pub fn undo_line(
     put_record(wp, wl, n, m, t, 5, batch, x.below, x.key, x.value)
 }
 
-// A batch's lines are undone, `count` of them, from number `newest` down: each is found through the log.
-pub fn undo_lines(
+// The lines of the row's batch above the mark are undone, newest first: each is found through the log. Then the row says what is left.
+pub fn undo_above(
     wp: &mut [u8],
     wl: &mut [u8],
     n: usize,
     m: usize,
     t: Run,
-    batch: u32,
-    newest: u32,
-    count: u32,
-) -> Run
+    mark: u32,
+    row: Row,
+) -> Turn
     requires { ⌜ HasAreas n m (now wp) (now wl) ⌝ }
-    ensures { λ u.
-        ⌜ ((s : model.Run) (l : List Rec) (ys : List batches.Line) → Shows n m (now (wp .entry)) (now (wl .entry)) t s → Grown l (s .log) → AllFit 1 l → Linked l ys
-        → newest ≡ batches.next-undo ys → count ≡ length ys → Shows n m (now (wp .exit)) (now (wl .exit)) u (undoing.undo-lines batch ys s)) ⌝ }
+    ensures { λ x. ⌜ ReturnsTurn n m (now (wp .entry)) (now (wl .entry)) (now (wp .exit)) (now (wl .exit)) t mark row x ⌝ }
 {
     let mut run = t;
-    let mut at = newest;
-    let mut left = count;
+    let mut last = row.last;
+    let mut at = row.undo;
+    let mut left = row.pending;
     while left > 0 {
+        if at <= mark {
+            let row = Row {
+                batch: row.batch,
+                last,
+                undo: at,
+                pending: left,
+            };
+            return Turn { run, row };
+        }
         let x = line_at(wl, m, at);
-        run = undo_line(wp, wl, n, m, run, batch, x);
+        run = undo_line(wp, wl, n, m, run, row.batch, x);
+        last = run.logged;
         at = x.below;
         left -= 1;
     }
-    run
+    let row = Row {
+        batch: row.batch,
+        last,
+        undo: at,
+        pending: left,
+    };
+    Turn { run, row }
 }
 
 // An 8 right after the batch's last record.
@@ -116,8 +131,8 @@ pub fn abort_run(wp: &mut [u8], wl: &mut [u8], n: usize, m: usize, t: Run, row: 
 {
     let r: Record = batch_row(7, row.batch, row.last);
     let marked = emit(wp, wl, n, m, t, r);
-    let undone = undo_lines(wp, wl, n, m, marked, row.batch, row.undo, row.pending);
-    end_batch(wp, wl, n, m, undone, row.batch)
+    let undone = undo_above(wp, wl, n, m, marked, 0, row);
+    end_batch(wp, wl, n, m, undone.run, row.batch)
 }
 
 // 01: "writes a 7 for each open batch without one": the row's batch. The row then names its 7, if there was a slot for that.

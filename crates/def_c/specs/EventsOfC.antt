@@ -55,12 +55,12 @@ unfoldable pub read-values : List ℕ → Answer
 read-values values = Pair (be32 values 0) (be32 values 4)
 
 -- The world after a call returned: its desk is the one given. The book is fed what the host reads (end-call).
-unfoldable pub return-to : CWorld → Call → Returned → (desk : List ℕ) → CWorld
-return-to w c r desk =
+unfoldable pub after-return : CWorld → Call → Returned → (desk : List ℕ) → CWorld
+after-return w c r desk =
     record {
       lent = r .areas;
       desk = desk;
-      book = book-after (eqb (r .reason) 0) c (read-values (r .values)) (w .book);
+      book = book-after (eqb (r .reason) 0) c (read-values (r .values)) (read-desk (r .desk)) (w .book);
       since-cut = w .since-cut && not (eqb (r .reason) 0);
     }
 
@@ -79,8 +79,8 @@ cut-c-call c values budget left w =
     }
 
 unfoldable pub c-happen : CEvent → CWorld → CWorld
-c-happen (ended c values) w = return-to w c (returns c values w) (returns c values w .desk)
-c-happen (mislent c desk values) w = return-to w c (c-call c (w .lent) desk values) (w .desk)
+c-happen (ended c values) w = after-return w c (returns c values w) (returns c values w .desk)
+c-happen (mislent c desk values) w = after-return w c (c-call c (w .lent) desk values) (w .desk)
 c-happen (cut c values budget left) w = cut-c-call c values budget left w
 c-happen (grown a b c d) w = record { lent = grow a b c d (as-world w) .lent; desk = w .desk; book = w .book; since-cut = w .since-cut }
 

@@ -6,7 +6,7 @@ use mathlib.Core.Option.{Option, none, some}
 use Rattle.def_base.specs.Tests.{pick}
 use Rattle.def_layout.specs.declared.Desk.{Desk}
 use Rattle.def_model.specs.declared.Refusal.{Refusal}
-use Rattle.def_model.specs.declared.Refusal.the-variants.{Lengths, PageNumber, Layout, Log, Redo, Rules, ZeroKey, Unsound, NoBatch, EightOpen, Held, Present, Absent, SlotsShort, PagesShort, AbortStopped}
+use Rattle.def_model.specs.declared.Refusal.the-variants.{Lengths, PageNumber, Layout, Log, Redo, Rules, ZeroKey, Unsound, NoBatch, EightOpen, Held, Present, Absent, SlotsShort, PagesShort, AbortStopped, NoMark}
 use Rattle.def_model.specs.declared.Answer.{Answer}
 use Rattle.def_model.specs.declared.Answer.the-variants.{Done, Number, Pair, Refused}
 use Rattle.def_model.specs.Areas.{Side, Areas, Store}
@@ -14,7 +14,8 @@ use Rattle.def_model.specs.Areas.{Side, Areas, Store}
 -- 01's numbers. 1 area lengths wrong or unequal. 2 page number not below the page count. 3 a page breaks the layout. 4 a slot breaks its row,
 -- number or batch chain .. 5 a change to be redone meets a page .. 6 the redone pages break the tree rules or the pending rule. 11 the
 -- working areas or desk are not sound. 12 no such open batch. 13 eight are open. 14 held by another batch. 15 key present. 16 key absent, or
--- none above. 17 log slots short. 18 pages short. 19 abort ran out of either. 02's, U1: "7, the key of an insert is 0".
+-- none above. 17 log slots short. 18 pages short. 19 abort ran out of either. 02's, U1: "7, the key of an insert is 0". U2: "20, the mark is
+-- not the number of a record of that batch .. 19 also covers this undo".
 unfoldable pub refusal-number : Refusal → ℕ
 refusal-number Lengths = 1
 refusal-number PageNumber = 2
@@ -32,6 +33,7 @@ refusal-number Absent = 16
 refusal-number SlotsShort = 17
 refusal-number PagesShort = 18
 refusal-number AbortStopped = 19
+refusal-number NoMark = 20
 
 -- An answer as numbers: 0 or the refusal, then two values. 01: "A refusal gives zeros for other answers".
 pub record Numbers : Type 0 where

@@ -4,13 +4,13 @@ use mathlib.Core.Option.{Option, none, some}
 use mathlib.Core.Bool.{Bool, true, false, not, _&&_}
 use mathlib.Core.List.{List, [], _∷_, _++_, map}
 use lib.ListN.{length}
-use lib.Dec.{leb, eqb}
+use lib.Dec.{leb, ltb, eqb}
 use Rattle.def_base.specs.Tests.{pick}
 use Rattle.def_layout.specs.declared.Row.{Row}
 use Rattle.def_layout.specs.declared.Desk.{Desk}
 use Rattle.def_layout.specs.Desks.{eight-rows, most-open}
 use Rattle.def_layout.specs.Records.{Rec, Kind, begin, insert, delete, undo-insert, undo-delete, commit, abort-mark, end, split, link, unlink, merge, redistribute, raise, lower}
-use Rattle.def_model.specs.Log.{last-number}
+use Rattle.def_model.specs.Log.{last-number, record-at}
 
 -- An update that is not yet undone (pending): its record's number, whether it inserts, its key and value.
 pub record Line : Type 0 where
@@ -83,6 +83,10 @@ told n (r ∷ l) bs = told (suc n) l (tell (r .kind) n r bs)
 -- THE OPEN BATCHES that a log says, by rising number.
 unfoldable pub open-batches : List Rec → List Batch
 open-batches log = told 1 log []
+
+-- 02, U2: a mark is "the number of a record of that batch", of any kind. A record of a tree change is of no batch.
+unfoldable pub is-record-of : ℕ → ℕ → List Rec → Bool
+is-record-of b n log = ltb 0 n && (leb n (last-number log) && eqb b (record-at log n .batch))
 
 -- ---- the batch chain (refusal 4)
 

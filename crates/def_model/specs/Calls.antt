@@ -14,16 +14,16 @@ use Rattle.def_layout.specs.PageBytes.{page}
 use Rattle.def_layout.specs.Records.{begin, insert, delete, commit, batch-row}
 use Rattle.def_layout.specs.RecordBytes.{empty}
 use Rattle.def_model.specs.declared.Refusal.{Refusal}
-use Rattle.def_model.specs.declared.Refusal.the-variants.{PageNumber, ZeroKey, Unsound, NoBatch, EightOpen, Held, Present, Absent, SlotsShort, PagesShort, AbortStopped}
+use Rattle.def_model.specs.declared.Refusal.the-variants.{PageNumber, ZeroKey, Unsound, NoBatch, EightOpen, Held, Present, Absent, SlotsShort, PagesShort, AbortStopped, NoMark}
 use Rattle.def_model.specs.declared.Answer.{Answer}
 use Rattle.def_model.specs.declared.Answer.the-variants.{Done, Number, Pair}
 use Rattle.def_model.specs.Fit.{found}
 use Rattle.def_model.specs.Log.{last-number, slots-used, log-area}
 use Rattle.def_model.specs.Lookup.{fetched, next-above}
 use Rattle.def_model.specs.Update.{Run, emit, put-record, remove-record}
-use Rattle.def_model.specs.Batches.{Batch, find-batch, unmarked, desk-of}
+use Rattle.def_model.specs.Batches.{Batch, find-batch, unmarked, is-record-of, desk-of}
 use Rattle.def_model.specs.Pending.{held, held-between}
-use Rattle.def_model.specs.Undo.{abort-run}
+use Rattle.def_model.specs.Undo.{return-run, abort-run}
 use Rattle.def_model.specs.Areas.{Side, Areas, Store, store-page, slot-stores, log-stores}
 use Rattle.def_model.specs.Answers.{Outcome, Check, check, first-broken, refuse}
 use Rattle.def_model.specs.Sound.{sound, work-pages, work-log, work-slots, work-open, update-has-slots, update-has-pages, begin-has-slots}
@@ -196,7 +196,7 @@ delete-by none b k a d = kept-run Done a (remove-record delete b (last-record b 
 unfoldable pub delete-slide : ℕ → ℕ → Areas → Desk → Outcome
 delete-slide b k a d = delete-by (first-broken (delete-checks b k a d)) b k a d
 
--- ---- commit, abort, write-out
+-- ---- commit and abort
 
 unfoldable pub commit-checks : ℕ → Areas → Desk → List Check
 commit-checks b a d = is-unsound a d ∷ no-live-batch b a ∷ []
@@ -225,6 +225,44 @@ abort-by none b a d = kept-run Done a (abort-of b a) d
 
 unfoldable pub abort-batch : ℕ → Areas → Desk → Outcome
 abort-batch b a d = abort-by (first-broken (abort-checks b a d)) b a d
+
+-- ---- mark and return
+
+unfoldable pub mark-checks : ℕ → Areas → Desk → List Check
+mark-checks b a d = is-unsound a d ∷ no-batch b a ∷ []
+
+unfoldable pub latest-by : Option Refusal → ℕ → Areas → Desk → Outcome
+latest-by (some r) b a d = refuse r a d
+latest-by none b a d = unchanged (Number (last-record b a)) a d
+
+-- 02, U2: "ask for the number of its latest log record as a mark".
+unfoldable pub mark-batch : ℕ → Areas → Desk → Outcome
+mark-batch b a d = latest-by (first-broken (mark-checks b a d)) b a d
+
+-- 20: "the mark is not the number of a record of that batch, checked after 12 and before 13".
+abbrev pub no-mark : ℕ → ℕ → Areas → Check
+no-mark b m a = check (not (is-record-of b m (work-log a))) NoMark
+
+unfoldable pub returned : ℕ → Option Batch → Run → Run
+returned m none s = s
+returned m (some b) s = return-run m b s
+
+abbrev pub return-of : ℕ → ℕ → Areas → Run
+return-of b m a = returned m (find-batch b (work-open a)) (run-of a)
+
+-- A batch with its abort mark may be asked for a mark, and may return: neither writes what a 7 forbids.
+unfoldable pub return-checks : ℕ → ℕ → Areas → Desk → List Check
+return-checks b m a d = is-unsound a d ∷ no-batch b a ∷ no-mark b m a ∷ check (not (eqb (return-of b m a .stop) 0)) AbortStopped ∷ []
+
+unfoldable pub return-by : Option Refusal → ℕ → ℕ → Areas → Desk → Outcome
+return-by (some r) b m a d = refuse r a d
+return-by none b m a d = kept-run Done a (return-of b m a) d
+
+-- "and later undo every pending update it made after that mark while staying open".
+unfoldable pub return-batch : ℕ → ℕ → Areas → Desk → Outcome
+return-batch b m a d = return-by (first-broken (return-checks b m a d)) b m a d
+
+-- ---- write-out
 
 unfoldable pub write-out-checks : ℕ → Areas → Desk → List Check
 write-out-checks p a d = check (leb (length (a .work .pages)) p) PageNumber ∷ is-unsound a d ∷ []

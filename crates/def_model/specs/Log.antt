@@ -1,12 +1,12 @@
 -- The log in its slots: which record stands where. That record n stands in slot n is said here, and by `Update: logged`, which adds a record at the
 -- end; all else asks `slot-of` and `log-area`.
-use Prim.Native.Nat.{ℕ, suc, _+_, _-_}
+use Prim.Native.Nat.{ℕ, zero, suc, _+_, _-_}
 use mathlib.Core.Bool.{Bool, true, false, _&&_}
 use mathlib.Core.List.{List, [], _∷_, _++_}
-use lib.ListN.{length, replicate}
+use lib.ListN.{length, replicate, getD}
 use lib.Dec.{eqb}
 use Rattle.def_layout.specs.Rows.{row, names-pages}
-use Rattle.def_layout.specs.Records.{Rec}
+use Rattle.def_layout.specs.Records.{Rec, begin, batch-row}
 use Rattle.def_layout.specs.RecordBytes.{Slot, empty, full, other}
 use Rattle.def_base.specs.Tests.{every}
 
@@ -16,6 +16,14 @@ last-number log = length log
 
 abbrev pub slots-used : List Rec → ℕ
 slots-used log = length log
+
+-- Record number n of a log; number 0, and those past the last, are none: a begin of no batch.
+abbrev pub no-record : Rec
+no-record = batch-row begin 0 0
+
+unfoldable pub record-at : List Rec → ℕ → Rec
+record-at log zero = no-record
+record-at log (suc n) = getD log n no-record
 
 -- Record number n has place `slot-of n` in the log area.
 abbrev pub slot-of : ℕ → ℕ

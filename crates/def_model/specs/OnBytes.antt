@@ -15,7 +15,7 @@ use Rattle.def_model.specs.declared.Answer.the-variants.{Refused}
 use Rattle.def_model.specs.Areas.{Areas, Store, store-page, store-slot, stored-page}
 use Rattle.def_model.specs.Log.{slot-of}
 use Rattle.def_model.specs.Answers.{Outcome}
-use Rattle.def_model.specs.Calls.{format-areas, begin-batch, fetch-slide, next-slide, insert-slide, delete-slide, commit-batch, abort-batch, write-out-page}
+use Rattle.def_model.specs.Calls.{format-areas, begin-batch, fetch-slide, next-slide, insert-slide, delete-slide, commit-batch, abort-batch, mark-batch, return-batch, write-out-page}
 use Rattle.def_model.specs.Restart.{restart-areas}
 
 -- 01: "The caller lends working pages, stable pages, a working log and a stable log."
@@ -73,7 +73,8 @@ pub data Call : Type 0 where
   fetch next : ℕ → ℕ → Call
   insert : ℕ → ℕ → ℕ → Call
   delete : ℕ → ℕ → Call
-  commit abort write-out : ℕ → Call
+  commit abort write-out take-mark : ℕ → Call
+  return-to : ℕ → ℕ → Call
 
 -- The typed areas' answer to a call.
 unfoldable pub outcome : Call → Areas → Desk → Outcome
@@ -87,6 +88,8 @@ outcome (delete b k) a d = delete-slide b k a d
 outcome (commit b) a d = commit-batch b a d
 outcome (abort b) a d = abort-batch b a d
 outcome (write-out p) a d = write-out-page p a d
+outcome (take-mark b) a d = mark-batch b a d
+outcome (return-to b m) a d = return-batch b m a d
 
 -- 01: "a refused format or restart gives an empty desk".
 unfoldable pub refused-desk : Call → Desk → Desk
@@ -100,6 +103,8 @@ refused-desk (delete b k) d = d
 refused-desk (commit b) d = d
 refused-desk (abort b) d = d
 refused-desk (write-out p) d = d
+refused-desk (take-mark b) d = d
+refused-desk (return-to b m) d = d
 
 -- What a call on bytes answers and leaves: the working areas, the desk, and its list of stores.
 pub record Result : Type 0 where

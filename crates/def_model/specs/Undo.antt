@@ -18,10 +18,15 @@ undo-by false n next l s = put-record undo-delete n next (l .key) (l .value) s
 unfoldable pub undo-line : ℕ → ℕ → Line → Run → Run
 undo-line n next l s = undo-by (l .adds) n next l s
 
--- Lines, newest first.
-unfoldable pub undo-lines : ℕ → List Line → Run → Run
-undo-lines n [] s = s
-undo-lines n (l ∷ ls) s = undo-lines n ls (undo-line n (next-undo ls) l s)
+-- 02, U2: "undo every pending update it made after that mark": batch n's lines, newest first, down to the first that is not above the mark. Their
+-- numbers fall, so none above it is left (`theory_ledger/Marks`).
+unfoldable pub undo-above : (mark : ℕ) → ℕ → List Line → Run → Run
+undo-above mark n [] s = s
+undo-above mark n (l ∷ ls) s = pick (ltb mark (l .number)) (undo-above mark n ls (undo-line n (next-undo ls) l s)) s
+
+-- "The undo is logged as abort's is, without 7 or 8."
+unfoldable pub return-run : ℕ → Batch → Run → Run
+return-run mark b s = undo-above mark (b .number) (b .lines) s
 
 -- An 8 right after the batch's last record.
 unfoldable pub end-batch : ℕ → Run → Run
@@ -29,9 +34,9 @@ end-batch n s = emit (batch-row end n (s .due - 1)) s
 
 -- ---- a whole batch
 
--- 01: "Abort writes a 7, undoes newest first, always from the root, then writes an 8."
+-- 01: "Abort writes a 7, undoes newest first, always from the root, then writes an 8." Its undo is a return to 0.
 unfoldable pub abort-run : Batch → Run → Run
-abort-run b s = end-batch (b .number) (undo-lines (b .number) (b .lines) (emit (batch-row abort-mark (b .number) (b .last)) s))
+abort-run b s = end-batch (b .number) (return-run 0 b (emit (batch-row abort-mark (b .number) (b .last)) s))
 
 -- ---- every open batch, at a restart
 

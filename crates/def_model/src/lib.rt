@@ -18,6 +18,7 @@ pub enum Refusal {
     SlotsShort,
     PagesShort,
     AbortStopped,
+    NoMark,
 }
 
 // Done, with no, one or two numbers, or refused.

@@ -4,13 +4,15 @@ use mathlib.Core.Path.{_≡_}
 use mathlib.Core.Bool.{Bool, true, false, not, _&&_}
 use mathlib.Core.List.{List, [], _∷_, _++_}
 use lib.ListN.{length}
-use lib.Dec.{leb}
+use lib.Dec.{leb, eqb}
+use Rattle.def_base.specs.Tests.{pick}
+use Rattle.def_layout.specs.declared.Row.{Row}
 use Rattle.def_layout.specs.declared.Desk.{Desk}
 use Rattle.def_layout.specs.Entries.{top}
 use Rattle.def_layout.specs.Numbers.{zeros}
 use Rattle.def_model.specs.declared.Answer.{Answer}
 use Rattle.def_model.specs.Answers.{passed}
-use Rattle.def_model.specs.OnBytes.{Call, format, begin, restart, fetch, next, insert, delete, commit, abort, write-out, Lent, Result, call, lent-after}
+use Rattle.def_model.specs.OnBytes.{Call, format, begin, restart, fetch, next, insert, delete, commit, abort, write-out, take-mark, return-to, Lent, Result, call, lent-after}
 use Rattle.def_recovery.specs.Book.{Book, new-book, book-call, book-cut}
 
 -- What a cut may leave in the working areas and the desk: anything.
@@ -41,9 +43,29 @@ passes c w = passed (result c w .answer)
 
 -- ---- one event
 
-unfoldable pub book-after : (passed : Bool) → Call → Answer → Book → Book
-book-after true c a b = book-call c a b
-book-after false c a b = b
+-- The last record of batch n, as a desk's rows give it.
+unfoldable pub last-in : ℕ → List Row → ℕ
+last-in n [] = 0
+last-in n (r ∷ rs) = pick (eqb n (r .batch)) (r .last) (last-in n rs)
+
+-- 02, U2: "each update's record number, which the desk then gives as the batch's last record": the desk after the call. No other call feeds one.
+unfoldable pub fed : Call → Desk → ℕ
+fed format d = 0
+fed begin d = 0
+fed restart d = 0
+fed (fetch n k) d = 0
+fed (next n k) d = 0
+fed (insert n k v) d = last-in n (d .rows)
+fed (delete n k) d = last-in n (d .rows)
+fed (commit n) d = 0
+fed (abort n) d = 0
+fed (write-out p) d = 0
+fed (take-mark n) d = 0
+fed (return-to n mark) d = 0
+
+unfoldable pub book-after : (passed : Bool) → Call → Answer → Desk → Book → Book
+book-after true c a d b = book-call c a (fed c d) b
+book-after false c a d b = b
 
 unfoldable pub end-call : Call → World → World
 end-call c w =
@@ -51,7 +73,7 @@ end-call c w =
     record {
       lent = lent-after (length (r .stores)) r (w .lent);
       desk = r .desk;
-      book = book-after (passed (r .answer)) c (r .answer) (w .book);
+      book = book-after (passed (r .answer)) c (r .answer) (r .desk) (w .book);
       since-cut = w .since-cut && not (passed (r .answer));
     }
 
@@ -107,6 +129,8 @@ is-format (delete n k) = false
 is-format (commit n) = false
 is-format (abort n) = false
 is-format (write-out p) = false
+is-format (take-mark n) = false
+is-format (return-to n m) = false
 
 unfoldable pub is-restart : Call → Bool
 is-restart format = false
@@ -119,6 +143,8 @@ is-restart (delete n k) = false
 is-restart (commit n) = false
 is-restart (abort n) = false
 is-restart (write-out p) = false
+is-restart (take-mark n) = false
+is-restart (return-to n m) = false
 
 -- 01: "Keys and values are 32-bit", and so is every number that a call is given.
 abbrev pub fits-32 : ℕ → Bool
@@ -135,6 +161,8 @@ of-32-bits (delete n k) = fits-32 n && fits-32 k
 of-32-bits (commit n) = fits-32 n
 of-32-bits (abort n) = fits-32 n
 of-32-bits (write-out p) = fits-32 p
+of-32-bits (take-mark n) = fits-32 n
+of-32-bits (return-to n m) = fits-32 n && fits-32 m
 
 -- "since the last finished formatting": a formatting among the calls is a refused one. "the first call after a cut to pass its checks is a
 -- restart, itself cut or not".

@@ -85,6 +85,7 @@ pub data See : Type 0 where
   page-count : ℕ → ℕ → See
   page-bytes-from : ℕ → ℕ → List ℕ → See
   kinds-from : ℕ → List ℕ → See
+  previous-from : ℕ → List ℕ → See
   slides : List Entry → See
 
 unfoldable pub seen : Machine → See → Bool
@@ -95,6 +96,7 @@ seen m (page-kind-is p k) = eqb (page-kind-number (at (work-pages (m .areas)) p 
 seen m (page-count p n) = eqb (length (at (work-pages (m .areas)) p .entries)) n
 seen m (page-bytes-from p i bs) = same-bytes (take (length bs) (drop i (page-bytes (at (work-pages (m .areas)) p)))) bs
 seen m (kinds-from n ks) = same-bytes (map (λ r. kind-number (r .kind)) (drop (n - 1) (work-log (m .areas)))) ks
+seen m (previous-from n ps) = same-bytes (map (λ r. r .previous) (drop (n - 1) (work-log (m .areas)))) ps
 seen m (slides es) = same-entries (leaf-records (work-pages (m .areas))) es
 
 -- ---- a row of the table

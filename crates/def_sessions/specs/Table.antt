@@ -3,8 +3,8 @@ use Prim.Native.Nat.{ℕ, _+_}
 use mathlib.Core.List.{List, [], _∷_, _++_, map}
 use lib.ListN.{replicate}
 use Rattle.def_layout.specs.Entries.{entry, top}
-use Rattle.def_model.specs.OnBytes.{begin, restart, fetch, next, insert, delete, commit, abort, write-out}
-use Rattle.def_sessions.specs.Play.{Session, Step, ask, cut, See, page-keys, page-entries, page-right, page-kind-is, page-count, page-bytes-from, kinds-from, slides}
+use Rattle.def_model.specs.OnBytes.{begin, restart, fetch, next, insert, delete, commit, abort, write-out, take-mark, return-to}
+use Rattle.def_sessions.specs.Play.{Session, Step, ask, cut, See, page-keys, page-entries, page-right, page-kind-is, page-count, page-bytes-from, kinds-from, previous-from, slides}
 
 -- ---- answers: 0 or the refusal, and two values
 
@@ -184,6 +184,44 @@ zero-key =
     usual (ask begin ∷ ask (insert 1 0 5) ∷ ask (insert 9 0 5) ∷ ask (insert 1 1 5) ∷ ask (fetch 1 0) ∷ ask (next 1 0) ∷ ask (delete 1 0) ∷ [])
     (answers 1 ∷ refused 7 ∷ refused 7 ∷ done ∷ refused 16 ∷ (0 ∷ 1 ∷ 5 ∷ []) ∷ refused 16 ∷ []) (slides (entry 1 5 ∷ []) ∷ [])
 
+-- 02, U2: a case of three trays, of which the third is taken back. Each undo's previous is what is next to undo, the last one's the newest update
+-- kept. The case goes on and commits with what it kept; another case files a slide of the third tray, and is ended by the restart.
+abbrev pub three-trays : Session
+three-trays =
+    usual
+    (ask begin ∷ inserts 1 (10 ∷ 11 ∷ []) ++ ask (take-mark 1) ∷ inserts 1 (20 ∷ 21 ∷ []) ++ ask (take-mark 1) ∷ inserts 1 (30 ∷ 31 ∷ []) ++ ask (return-to 1 5) ∷ ask (take-mark 1)
+    ∷ ask begin ∷ ask (insert 10 30 7) ∷ ask (fetch 1 30) ∷ ask (fetch 10 21) ∷ ask (commit 1) ∷ power-cut ∷ ask restart ∷ [])
+    (answers 1 ∷ done ∷ done ∷ answers 3 ∷ done ∷ done ∷ answers 5 ∷ done ∷ done ∷ done ∷ answers 9 ∷ answers 10 ∷ done ∷ refused 14 ∷ refused 14 ∷ done ∷ (0 ∷ 1 ∷ 9 ∷ []) ∷ [])
+    (kinds-from 6 (2 ∷ 2 ∷ 4 ∷ 4 ∷ 1 ∷ 2 ∷ 6 ∷ 7 ∷ 4 ∷ 8 ∷ []) ∷ previous-from 6 (5 ∷ 6 ∷ 6 ∷ 5 ∷ 0 ∷ 10 ∷ 9 ∷ 11 ∷ 0 ∷ 14 ∷ [])
+    ∷ slides (entry 10 10 ∷ entry 11 11 ∷ entry 20 20 ∷ entry 21 21 ∷ []) ∷ [])
+
+-- 02, U2: a mark is any record of that batch, also its begin, an update taken back, or an undo; the update that is the mark is kept. 20 for 0, for
+-- another batch's records and for numbers past the last; 12 before that. A return with nothing above its mark writes nothing.
+abbrev pub marks : Session
+marks =
+    usual
+    (ask begin ∷ ask begin ∷ ask (insert 1 5 5) ∷ ask (insert 2 6 6) ∷ ask (return-to 1 0) ∷ ask (return-to 1 2) ∷ ask (return-to 1 4) ∷ ask (return-to 1 5) ∷ ask (return-to 9 3) ∷ ask (take-mark 9)
+    ∷ ask (return-to 1 3) ∷ ask (take-mark 1) ∷ ask (fetch 1 5) ∷ ask (delete 1 5) ∷ ask (return-to 1 3) ∷ ask (return-to 1 5) ∷ ask (return-to 1 6) ∷ ask (fetch 1 5) ∷ ask (return-to 1 1) ∷ ask (fetch 1 5)
+    ∷ ask (take-mark 1) ∷ ask (insert 1 5 9) ∷ ask (commit 1) ∷ [])
+    (answers 1 ∷ answers 2 ∷ done ∷ done ∷ refused 20 ∷ refused 20 ∷ refused 20 ∷ refused 20 ∷ refused 12 ∷ refused 12
+    ∷ done ∷ answers 3 ∷ answers 5 ∷ done ∷ done ∷ done ∷ done ∷ answers 5 ∷ done ∷ refused 16
+    ∷ answers 7 ∷ done ∷ done ∷ [])
+    (kinds-from 1 (1 ∷ 1 ∷ 2 ∷ 2 ∷ 3 ∷ 5 ∷ 4 ∷ 2 ∷ 6 ∷ []) ∷ previous-from 1 (0 ∷ 0 ∷ 1 ∷ 2 ∷ 3 ∷ 3 ∷ 0 ∷ 7 ∷ 8 ∷ []) ∷ slides (entry 5 9 ∷ entry 6 6 ∷ []) ∷ [])
+
+-- A record of a tree change is of no batch, and is not taken back: record 16 is the split, 18 the raise on the undo's way.
+abbrev pub split-stays : Session
+split-stays =
+    usual (to-150 ++ ask (return-to 1 16) ∷ ask (return-to 1 15) ∷ []) (answers 1 ∷ replicate 15 done ++ refused 20 ∷ done ∷ [])
+    (kinds-from 16 (9 ∷ 2 ∷ 14 ∷ 4 ∷ []) ∷ page-keys 255 (80 ∷ 90 ∷ 100 ∷ 110 ∷ 120 ∷ 130 ∷ 140 ∷ []) ∷ [])
+
+-- A case that was partly taken back is open at a cut: restart undoes the rest of it. Another is aborted: so does abort.
+abbrev pub partly-back : Session
+partly-back =
+    usual
+    (ask begin ∷ inserts 1 (5 ∷ 6 ∷ []) ++ ask (return-to 1 2) ∷ ask begin ∷ ask (commit 5) ∷ power-cut ∷ ask restart ∷ ask begin ∷ inserts 10 (5 ∷ 6 ∷ []) ++ ask (return-to 10 11) ∷ ask (abort 10) ∷ [])
+    (answers 1 ∷ done ∷ done ∷ done ∷ answers 5 ∷ done ∷ (0 ∷ 1 ∷ 3 ∷ []) ∷ answers 10 ∷ replicate 4 done)
+    (kinds-from 4 (4 ∷ 1 ∷ 6 ∷ 7 ∷ 4 ∷ 8 ∷ 1 ∷ 2 ∷ 2 ∷ 4 ∷ 7 ∷ 4 ∷ 8 ∷ []) ∷ previous-from 4 (2 ∷ 0 ∷ 5 ∷ 4 ∷ 0 ∷ 8 ∷ 0 ∷ 10 ∷ 11 ∷ 11 ∷ 13 ∷ 0 ∷ 15 ∷ []) ∷ slides [] ∷ [])
+
 -- Two cases are open at a cut, with updates in turns: "undoes always the largest log number due, with an 8 right after a batch's last".
 abbrev pub two-open : Session
 two-open =
@@ -240,7 +278,7 @@ abbrev pub rows : List Session
 rows =
     a-split ∷ a-raise ∷ a-merge ∷ a-held-key ∷ a-ninth ∷ enough-slots ∷ too-few-slots ∷ too-few-pages ∷ a-cut
     ∷ a-lower ∷ shared-left ∷ shared-right ∷ an-abort ∷ a-redo ∷ unstored-commit ∷ stored-commit ∷ console
-    ∷ next-held ∷ next-held-between ∷ each-refusal ∷ zero-key ∷ two-open ∷ three-open ∷ redo-of-changes ∷ two-inserts 256 100 done ∷ two-inserts 256 99 (refused 17) ∷ two-inserts 23 1024 done
+    ∷ next-held ∷ next-held-between ∷ each-refusal ∷ zero-key ∷ three-trays ∷ marks ∷ split-stays ∷ partly-back ∷ two-open ∷ three-open ∷ redo-of-changes ∷ two-inserts 256 100 done ∷ two-inserts 256 99 (refused 17) ∷ two-inserts 23 1024 done
     ∷ two-inserts 22 1024 (refused 18) ∷ begin-fits ∷ begin-short ∷ []
 
 abbrev pub table : ℕ → List Session

@@ -271,6 +271,51 @@ pub extern "C" fn donzhikar_abort(
     give(desk, values, y)
 }
 
+// Mark: the number of a batch's latest record.
+#[no_mangle]
+pub extern "C" fn donzhikar_mark(
+    wp: &[u8],
+    sp: &[u8],
+    wl: &[u8],
+    sl: &[u8],
+    desk: &mut [u8],
+    values: &mut [u8],
+    batch: u32,
+) -> u32
+    ensures { λ r. ⌜ returned r (now (desk .exit)) (now (values .exit)) (at-exit wp sp wl sl) ≡ c-call (calls.take-mark batch) (at-entry wp sp wl sl) (now (desk .entry)) (now (values .entry)) ⌝ }
+{
+    let q = asked(desk, values);
+    if !q.ok {
+        return refuse(desk, values, false);
+    }
+    let d = q.desk;
+    let y = call_register::mark(wp, sp, wl, sl, d, batch);
+    give(desk, values, y)
+}
+
+// Return: a batch's changes after a mark are undone, and it stays open.
+#[no_mangle]
+pub extern "C" fn donzhikar_return(
+    wp: &mut [u8],
+    sp: &[u8],
+    wl: &mut [u8],
+    sl: &[u8],
+    desk: &mut [u8],
+    values: &mut [u8],
+    batch: u32,
+    mark: u32,
+) -> u32
+    ensures { λ r. ⌜ returned r (now (desk .exit)) (now (values .exit)) (at-exit wp sp wl sl) ≡ c-call (calls.return-to batch mark) (at-entry wp sp wl sl) (now (desk .entry)) (now (values .entry)) ⌝ }
+{
+    let q = asked(desk, values);
+    if !q.ok {
+        return refuse(desk, values, false);
+    }
+    let d = q.desk;
+    let y = call_register::return_to(wp, sp, wl, sl, d, batch, mark);
+    give(desk, values, y)
+}
+
 // Write-out: the log and then one page are stored.
 #[no_mangle]
 pub extern "C" fn donzhikar_write_out(

@@ -25,6 +25,7 @@ fn refusal_number(r: Refusal) -> u32
         Refusal::SlotsShort => 17,
         Refusal::PagesShort => 18,
         Refusal::AbortStopped => 19,
+        Refusal::NoMark => 20,
     }
 }
 

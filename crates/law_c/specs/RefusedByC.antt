@@ -14,7 +14,7 @@ use Rattle.def_layout.specs.Sizes.{desk-size}
 use Rattle.def_model.specs.declared.Refusal.the-variants.{Lengths}
 use Rattle.def_model.specs.declared.Answer.the-variants.{Refused}
 use Rattle.def_model.specs.Answers.{answer-numbers}
-use Rattle.def_model.specs.OnBytes.{Call, format, begin, restart, fetch, next, insert, delete, commit, abort, write-out, Lent, refused-desk}
+use Rattle.def_model.specs.OnBytes.{Call, format, begin, restart, fetch, next, insert, delete, commit, abort, write-out, Lent, refused-desk, take-mark, return-to}
 use Rattle.def_c.specs.FromC.{Returned, values-size, value-bytes, sizes-ok, refused-desk-bytes, refused-values, returned-by, c-call}
 use Rattle.law_bytes.specs.Words.{Bytes}
 use Rattle.law_bytes.specs.DeskBytes.{desk-bytes-back}
@@ -31,6 +31,8 @@ empties (delete b k) = false
 empties (commit b) = false
 empties (abort b) = false
 empties (write-out p) = false
+empties (take-mark b) = false
+empties (return-to b m) = false
 
 refused-by : (c : Call) (d : Desk) → refused-desk c d ≡ pick (empties c) empty-desk d
 unfolding refused-desk
@@ -44,6 +46,8 @@ refused-by (delete b k) d = refl
 refused-by (commit b) d = refl
 refused-by (abort b) d = refl
 refused-by (write-out p) d = refl
+refused-by (take-mark b) d = refl
+refused-by (return-to b m) d = refl
 
 -- ---- the desk
 

@@ -4,18 +4,11 @@ use mathlib.Core.Path.{_≡_, refl, sym, ap, _∙_, subst}
 use mathlib.Core.Bool.{Bool, true, false}
 use mathlib.Core.List.{List, [], _∷_, _++_}
 use native.Mathlib.Omega.{arith}
-use lib.ListN.{length, getD, length-append, List·getD-append}
+use lib.ListN.{length, length-append, List·getD-append}
 use lib.Seq.{getD-append-seam}
-use Rattle.def_layout.specs.Records.{Rec, Kind, batch-row, begin, insert, delete, undo-insert, undo-delete, commit, abort-mark, end, split, link, unlink, merge, redistribute, raise, lower}
+use Rattle.def_layout.specs.Records.{Rec, Kind, begin, insert, delete, undo-insert, undo-delete, commit, abort-mark, end, split, link, unlink, merge, redistribute, raise, lower}
+use Rattle.def_model.specs.Log.{no-record, record-at}
 use Rattle.def_model.specs.Batches.{Line, next-undo}
-
--- Record number n of a log; number 0, and those past the last, are none.
-abbrev pub no-record : Rec
-no-record = batch-row begin 0 0
-
-unfoldable pub record-at : List Rec → ℕ → Rec
-record-at log zero = no-record
-record-at log (suc n) = getD log n no-record
 
 -- What was pending in a batch, newest, after record q, its number p: an update itself, or what an undo says is left. After its begin there
 -- is nothing.

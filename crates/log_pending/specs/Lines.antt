@@ -9,9 +9,10 @@ use lib.Dec.{eqb}
 use Rattle.def_layout.specs.Numbers.{be32}
 use Rattle.def_layout.specs.Records.{Rec, kind-number}
 use Rattle.def_layout.specs.Sizes.{slot-size}
+use Rattle.def_model.specs.Log.{record-at}
 use Rattle.def_model.specs.Batches as model
 use Rattle.log_pending.specs.declared.Line.{Line}
-use Rattle.log_pending.specs.Below.{record-at, pending-after, below, adds-kind, Stands, Linked}
+use Rattle.log_pending.specs.Below.{pending-after, below, adds-kind, Stands, Linked}
 use Rattle.log_pending.specs.Reading.{Reads, TellsAfter, reads-few, kind-read, previous-read, key-read, second-read}
 
 abbrev pub shown-line : model.Line → List model.Line → Line

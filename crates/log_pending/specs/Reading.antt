@@ -1,26 +1,28 @@
 -- What the program reads of a record in a log area: the few numbers that lead from a pending line to the one below it.
 use Prim.Native.Nat.{ℕ, zero, suc, _+_, _*_, _/_, _≤_, _<_}
 use mathlib.Core.Path.{_≡_, refl, sym, ap, _∙_}
+use mathlib.Core.Bool.{Bool, true, false, _&&_}
 use mathlib.Core.List.{List, [], _∷_}
 use native.Mathlib.Omega.{arith}
 use native.Mathlib.Nat.{mod-lt, add-zero, add-suc, suc-add}
 use native.Mathlib.Decide.{decLt}
 use lib.ListN.{length, getD, take, drop}
 use lib.Seq.{take-all, getD-take}
-use lib.Dec.{lit<, lit≤}
-use Rattle.def_base.specs.Tests.{Case, yes!, no!, case}
+use lib.Dec.{lit<, lit≤, ltb, leb, eqb}
+use Rattle.def_base.specs.Tests.{Case, yes!, no!, case, lt-true, le-true, le-false}
 use Rattle.def_layout.specs.Numbers.{be32, same-bytes, zeros}
 use Rattle.def_layout.specs.Records.{Rec, Kind, kind-of, kind-number}
 use Rattle.def_layout.specs.RecordBytes.{record-bytes, record-fields, Slot, empty, full, other, full-by, slot-by, read-slot}
 use Rattle.def_layout.specs.Sizes.{slot-size}
-use Rattle.def_model.specs.Log.{slots-from}
+use Rattle.def_model.specs.Log.{no-record, record-at, slots-from}
+use Rattle.def_model.specs.Batches.{is-record-of}
 use Rattle.law_bytes.specs.Words.{part, be32-drop, be32-take}
 use Rattle.law_bytes.specs.Pieces.{read-all-at, read-all-length}
 use Rattle.law_bytes.specs.Ranges.{Run, in-run}
 use Rattle.law_bytes.specs.Same.{same-true}
 use Rattle.law_bytes.specs.LogAreas.{slots-of}
 use Rattle.law_bytes.specs.RecordBytes.{kind-back, kind-range, word-kind, word-0}
-use Rattle.log_pending.specs.Below.{no-record, record-at, pending-by, pending-after}
+use Rattle.log_pending.specs.Below.{pending-by, pending-after}
 
 -- The records l stand in the first slots of an area of m slots.
 abbrev pub Reads : ℕ → List ℕ → List Rec → Type 0
@@ -58,6 +60,7 @@ kind-digit w r e = omega (arith, e, mod-lt (length (r .entries)) {m = 16} (lit< 
 
 record Worded (b : List ℕ) (r : Rec) : Type 0 where
   pub kind : be32 b 0 / 268435456 ≡ kind-number (r .kind)
+  pub batch : be32 b 8 ≡ r .batch
   pub previous : be32 b 12 ≡ r .previous
   pub key : be32 b 20 ≡ r .key
   pub second : be32 b 24 ≡ r .second
@@ -83,6 +86,7 @@ worded b n r e = go (case (same-bytes (zeros slot-size) b)) (case (same-bytes (r
               kind-digit (be32 b 0) (record-fields b)
               (ap (λ (x : List ℕ). be32 x 0) (sym (same-true (record-bytes (be32 b 4) (record-fields b)) b u)) ∙ word-0 (be32 b 4) (record-fields b))
               ∙ ap (λ (x : Rec). kind-number (x .kind)) g;
+          batch = ap (λ (x : Rec). x .batch) g;
           previous = ap (λ (x : Rec). x .previous) g;
           key = ap (λ (x : Rec). x .key) g;
           second = ap (λ (x : Rec). x .second) g;
@@ -111,6 +115,9 @@ module _ (m : ℕ) (b : List ℕ) (l : List Rec) (e : Reads m b l) (i : ℕ) (h 
   pub kind-read : be32 b (slot-size * i) / 268435456 ≡ kind-number (record-at l (suc i) .kind)
   kind-read =
       ap (λ (k : ℕ). be32 b k / 268435456) (sym (add-zero (slot-size * i))) ∙ ap (λ (w : ℕ). w / 268435456) (word-part 0 (lit≤ tt)) ∙ words .kind
+
+  pub batch-read : be32 b (slot-size * i + 8) ≡ record-at l (suc i) .batch
+  batch-read = word-part 8 (lit≤ tt) ∙ words .batch
 
   pub previous-read : be32 b (slot-size * i + 12) ≡ record-at l (suc i) .previous
   previous-read = word-part 12 (lit≤ tt) ∙ words .previous
@@ -166,3 +173,32 @@ module _ (m : ℕ) (b : List ℕ) (p i : ℕ) (n : p ≡ suc i) where
         let y : k < 16 = omega (arith, w, kind-read m b l e i (omega arith), kind-range (record-at l (suc i) .kind) .1) in
         sym (after-kind k l e h w ∙ in-run (λ (k : ℕ). pending-by (kind-of k) p (record-at l p) ≡ 0) 10 6 k
         (refl, (refl, (refl, (refl, (refl, (refl, (refl, (refl, (refl, (refl, tt)))))))))) x y)
+
+-- ---- whether a record is of a batch
+
+abbrev pub TellsOf : ℕ → List ℕ → (logged batch number : ℕ) → Bool → Type 0
+TellsOf m b logged batch number r = (l : List Rec) → Reads m b l → logged ≡ length l → r ≡ is-record-of batch number l
+
+module _ (m : ℕ) (b : List ℕ) (logged batch number : ℕ) where
+  pub of-zero : number ≡ 0 → TellsOf m b logged batch number false
+  unfolding is-record-of
+  of-zero z l e h = rw z
+
+  pub of-past : logged < number → TellsOf m b logged batch number false
+  unfolding is-record-of
+  of-past q l e h = rw (le-false number (length l) (omega (arith, q, h)), and-false (ltb 0 number))
+    where
+      and-false : (t : Bool) → t && false ≡ false
+      and-false true = refl
+      and-false false = refl
+
+  pub of-none : (i : ℕ) → number ≡ suc i → m ≤ i → number ≤ logged → TellsOf m b logged batch number false
+  of-none i n q k l e h = absurd (omega (arith, reads-few m b l e, n, q, k, h))
+
+  pub of-read : (i w : ℕ) → number ≡ suc i → number ≤ logged → w ≡ be32 b (slot-size * i + 8) → TellsOf m b logged batch number (eqb batch w)
+  unfolding is-record-of
+  of-read i w n k e l rd h =
+      let t : ltb 0 number ≡ true = lt-true 0 number (omega arith) in
+      let u : leb number (length l) ≡ true = le-true number (length l) (omega (arith, k, h)) in
+      let v : w ≡ record-at l number .batch = e ∙ batch-read m b l rd i (omega (arith, n, k, h)) ∙ ap (λ (j : ℕ). record-at l j .batch) (sym n) in
+      rw (t, u, v)

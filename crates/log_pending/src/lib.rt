@@ -3,7 +3,7 @@ use codec_bytes::get32;
 use def_layout::SLOT_SIZE;
 use def_layout::slot;
 ghost use Rattle.law_bytes.specs.AreaSizes.{HasSlots};
-ghost use Rattle.log_pending.specs.Reading.{TellsAfter};
+ghost use Rattle.log_pending.specs.Reading.{TellsAfter, TellsOf};
 ghost use Rattle.log_pending.specs.Lines.{TellsLine};
 
 // A pending update, and the number of the one below it in its batch.
@@ -66,4 +66,22 @@ pub fn line_at(log: &[u8], m: usize, number: u32) -> Line
         value,
         below,
     }
+}
+
+// Whether record `number` of a log of `logged` records is one of batch b's.
+pub fn is_record_of(log: &[u8], m: usize, logged: u32, b: u32, number: u32) -> bool
+    requires { ⌜ HasSlots m (now log) ⌝ }
+    ensures { λ r. ⌜ TellsOf m (now (log .entry)) logged b number r ⌝ }
+{
+    if number == 0 {
+        return false;
+    }
+    if number > logged {
+        return false;
+    }
+    let i = number as usize - 1;
+    if i >= m {
+        return false;
+    }
+    b == get32(log, SLOT_SIZE * i + slot::BATCH_AT)
 }

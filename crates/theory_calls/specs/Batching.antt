@@ -1,4 +1,4 @@
--- Begin, commit and abort, where they pass.
+-- Begin, commit, abort and return, where they pass.
 use Prim.Native.Nat.{ℕ, suc, _+_, _*_, _≤_, _<_}
 use mathlib.Core.Path.{_≡_, refl, sym, ap, _∙_, subst}
 use mathlib.Core.Bool.{true, false}
@@ -13,22 +13,23 @@ use Rattle.def_layout.specs.Pages.{Page, map-bits}
 use Rattle.def_layout.specs.Records
 use Rattle.def_layout.specs.Records.{Rec, batch-row, kind-number}
 use Rattle.def_model.specs.declared.Refusal.{Refusal}
-use Rattle.def_model.specs.declared.Refusal.the-variants.{Unsound, NoBatch, EightOpen, SlotsShort, AbortStopped}
+use Rattle.def_model.specs.declared.Refusal.the-variants.{Unsound, NoBatch, EightOpen, SlotsShort, AbortStopped, NoMark}
 use Rattle.def_model.specs.declared.Answer.the-variants.{Done, Number}
 use Rattle.def_model.specs.Log.{log-area}
 use Rattle.def_model.specs.Update.{Run, emit}
 use Rattle.def_model.specs.Areas.{Areas, log-stores}
 use Rattle.def_model.specs.Answers.{passed, check, first-broken, answer-numbers}
-use Rattle.def_model.specs.Batches.{Batch, find-batch, drop-batch, open-batches, unmarked, pending-count, tell}
+use Rattle.def_model.specs.Batches.{Batch, find-batch, change-batch, drop-batch, open-batches, unmarked, is-record-of, pending-count, tell}
 use Rattle.def_model.specs.Sound.{sound, work-pages, work-log, work-slots, work-open, reserve, reserves-ok, begin-has-slots}
-use Rattle.def_model.specs.Undo.{abort-run}
-use Rattle.def_model.specs.Calls.{run-of, run-side, kept-run, stored-run, last-of, begin-checks, begin-by, begin-batch, commit-checks, commit-by, commit-batch, aborted, abort-of, abort-checks, abort-by, abort-batch}
-use Rattle.def_model.specs.OnBytes.{begin, commit, abort, outcome}
+use Rattle.def_model.specs.Undo.{return-run, abort-run}
+use Rattle.def_model.specs.Calls.{run-of, run-side, kept-run, stored-run, last-of, begin-checks, begin-by, begin-batch, commit-checks, commit-by, commit-batch, aborted, abort-of, abort-checks, abort-by, abort-batch, is-none, returned, return-of, return-checks, return-by, return-batch}
+use Rattle.def_model.specs.OnBytes.{begin, commit, abort, return-to, outcome}
 use Rattle.def_recovery.specs.Demand3.{is-commit-of}
 use Rattle.def_recovery.specs.Book
-use Rattle.def_recovery.specs.Book.{book-call, open-sheet, commit-sheet, abort-sheet, carry-out}
+use Rattle.def_recovery.specs.Book.{book-call, open-sheet, commit-sheet, abort-sheet, return-sheet, carry-out}
 use Rattle.theory_update.specs.Run.Way.{written-by}
 use Rattle.theory_ledger.specs.Batching.{find-number}
+use Rattle.theory_ledger.specs.Marks.{kept, left-with, open-falls}
 use Rattle.theory_ledger.specs.Runs.{carry-lines}
 use Rattle.theory_ledger.specs.Telling.{slides-by, lines-of}
 use Rattle.theory_history.specs.Origin.{Origin}
@@ -36,13 +37,13 @@ use Rattle.theory_history.specs.Start.{slides-after}
 use Rattle.theory_history.specs.Core.{Core}
 use Rattle.theory_history.specs.Notes.{begin-next, commit-next}
 use Rattle.theory_history.specs.Trail.{trail-emit}
-use Rattle.theory_history.specs.Undoing.{abort-trail}
+use Rattle.theory_history.specs.Undoing.{return-trail, abort-trail}
 use Rattle.theory_history.specs.History.{History, standing-more, trail-standing}
 use Rattle.theory_room.specs.Reasons.{Within, emit-within}
-use Rattle.theory_calls.specs.Stories.{story, sheets-of, sheets-end, sheets-drop, sheets-lines, sheet-carried}
+use Rattle.theory_calls.specs.Stories.{story, sheets-of, sheets-end, sheets-drop, sheets-return, sheets-lines, sheet-carried}
 use Rattle.theory_calls.specs.LiveAreas.{Holds, live-log, live-slots, stored-count}
-use Rattle.theory_calls.specs.Checks.{none-broken, kept-check, sound-parts, live-batch, found-open}
-use Rattle.theory_calls.specs.Within.{abort-within}
+use Rattle.theory_calls.specs.Checks.{none-broken, kept-check, sound-parts, live-batch, some-of, found-open}
+use Rattle.theory_calls.specs.Within.{return-within, abort-within}
 use Rattle.theory_calls.specs.Results.{story-more, standing, run-log, run-due, run-within, calm-passes}
 use Rattle.theory_calls.specs.Passing.{is-commit, commits, Stored, the-log, by-commit, Passes, emit-room, standing-slides}
 
@@ -176,3 +177,27 @@ module _ (o : Origin) (n m : ℕ) (most : n ≤ map-bits) (stable log : List Rec
           calm-passes o n m most stable log a d h x (abort b) (abort-run y (run-of a)) refl tr (abort-within m y (run-of a) (run-within o n m most stable log a d h x))
           (ap (λ o. abort-by o b a d .work) e ∙ ap (run-side (work-slots a)) run) (ap (λ o. abort-by o b a d .stores) e)
           (λ i. record { slides = sd .slides i; sheets = (sheets-drop b (open-batches log) ∙ ap sheets-of (ap (drop-batch b) (sym opens) ∙ sym op)) i })
+
+  -- ---- return
+
+  pub return-passes : (b mark : ℕ) → passed (outcome (return-to b mark) a d .answer) ≡ true → Passes o n m stable log (return-to b mark) a d
+  unfolding outcome return-batch return-by return-checks returned passed is-commit book-call kept-run return-sheet story
+  return-passes b mark p = go (first-broken (return-checks b mark a d)) refl p
+    where
+      go : (z : Option Refusal) → first-broken (return-checks b mark a d) ≡ z → passed (return-by z b mark a d .answer) ≡ true → Passes o n m stable log (return-to b mark) a d
+      go (some r) e p = clash (sym p)
+      go none e p =
+          let (snd, e₁) = kept-check (sound a d) Unsound _ e in
+          let (op, e₂) = none-broken (check (is-none (find-batch b (work-open a))) NoBatch) _ e₁ in
+          let (mk, e₃) = kept-check (is-record-of b mark (work-log a)) NoMark _ e₂ in
+          let (st, e₄) = kept-check (eqb (return-of b mark a .stop) 0) AbortStopped [] e₃ in
+          let (y, f) = some-of (find-batch b (work-open a)) op in
+          let run : return-of b mark a ≡ return-run mark y (run-of a) = ap (λ o. returned mark o (run-of a)) f in
+          let z : return-run mark y (run-of a) .stop ≡ 0 = ap (λ t. t .stop) (sym run) ∙ true-eq (return-of b mark a .stop) 0 st in
+          let f′ : find-batch b (open-batches (run-of a .log)) ≡ some y = subst (λ v. find-batch b v ≡ some y) (work-opens ∙ sym opens) f in
+          let f″ : find-batch b (open-batches log) ≡ some y = subst (λ v. find-batch b v ≡ some y) work-opens f in
+          let rt = return-trail n most mark (run-of a) (slides-after o log) b y core f′ (sym (find-number b (open-batches (run-of a .log)) y f′)) z in
+          let sd = trail-standing o n most (rt .trail) (standing o n m most stable log a d h x) in
+          calm-passes o n m most stable log a d h x (return-to b mark) (return-run mark y (run-of a)) refl (rt .trail) (return-within m mark y (run-of a) (run-within o n m most stable log a d h x))
+          (ap (λ o. return-by o b mark a d .work) e ∙ ap (run-side (work-slots a)) run) (ap (λ o. return-by o b mark a d .stores) e)
+          (λ i. record { slides = sd .slides i; sheets = (sheets-return b mark (rt .last) _ (open-batches log) y f″ (open-falls log b y f″) ∙ ap sheets-of (ap (change-batch b (left-with (rt .last) (kept mark (y .lines)))) (sym opens) ∙ sym (rt .opens))) i })

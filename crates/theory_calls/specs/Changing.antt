@@ -20,15 +20,17 @@ use Rattle.def_model.specs.TreeRules.{tree-ok, leaf-records, used-pages}
 use Rattle.def_model.specs.Update.{Run, put-record, remove-record}
 use Rattle.def_model.specs.Areas.{Areas}
 use Rattle.def_model.specs.Answers.{passed, check, first-broken}
-use Rattle.def_model.specs.Batches.{Line, Batch, change-batch, find-batch, open-batches, unmarked, pending-count, tell, written}
+use Rattle.def_model.specs.Batches.{Line, Batch, change-batch, find-batch, open-batches, unmarked, pending-count, tell, written, desk-of}
 use Rattle.def_model.specs.Pending.{held}
 use Rattle.def_model.specs.Sound.{sound, work-pages, work-log, work-slots, work-open, reserve, update-has-slots, update-has-pages}
 use Rattle.def_model.specs.Calls.{run-of, kept-run, value-or, present, last-of, zero-key, insert-checks, insert-by, insert-slide, delete-checks, delete-by, delete-slide}
 use Rattle.def_model.specs.OnBytes.{insert, delete, outcome}
-use Rattle.def_recovery.specs.Book.{file, strike, book-call, write-line}
+use Rattle.def_recovery.specs.Book.{file, strike, add-line, book-call, write-line}
+use Rattle.def_recovery.specs.Events.{last-in, fed}
 use Rattle.theory_tree.specs.Step.Steps.{by-insert, by-delete}
 use Rattle.theory_update.specs.Laws.{put-law, remove-law}
 use Rattle.theory_update.specs.Find.Fetching.{fetched-is}
+use Rattle.theory_ledger.specs.Batching.{find-change}
 use Rattle.theory_history.specs.Origin.{Origin}
 use Rattle.theory_history.specs.Start.{slides-after}
 use Rattle.theory_history.specs.Core.{Core, core-ready}
@@ -36,6 +38,7 @@ use Rattle.theory_history.specs.Updating.{Updated, put-updated, remove-updated}
 use Rattle.theory_history.specs.BatchData.{insert-data, delete-data}
 use Rattle.theory_history.specs.History.{History, trail-standing}
 use Rattle.theory_calls.specs.Stories.{story, sheets-of, line-by, sheets-write}
+use Rattle.theory_calls.specs.Fed.{last-given}
 use Rattle.theory_calls.specs.LiveAreas.{Holds, live-log, live-slots}
 use Rattle.theory_calls.specs.Checks.{none-broken, kept-check, live-batch, absent-of, present-of}
 use Rattle.theory_calls.specs.Within.{put-within, remove-within}
@@ -82,25 +85,29 @@ module _ (o : Origin) (n m : ℕ) (most : n ≤ map-bits) (stable log : List Rec
   fetched-live k kt = fetched-is k (work-pages a) (subst (λ z. tree-ok z ≡ true) (sym pages-are) (core .tree)) kt ∙ ap (λ z. look k (leaf-records z)) pages-are
 
   -- The story after an update.
-  told : (t : Run) (r : Rec) (b : ℕ) (line : Line) → (u : Updated (run-of a) (slides-after o log) t r) → tell (r .kind) (u .number) r (open-batches (run-of a .log)) ≡ change-batch b (written (u .number) line) (open-batches (run-of a .log))
-      → write-line b (line-by (line .adds) (line .key) (line .value)) (story o log) ≡ story o (t .log)
-  unfolding write-line story
-  told t r b line u e =
+  told : (t : Run) (r : Rec) (b : ℕ) (y : Batch) (line : Line) → (u : Updated (run-of a) (slides-after o log) t r) → tell (r .kind) (u .number) r (open-batches (run-of a .log)) ≡ change-batch b (written (u .number) line) (open-batches (run-of a .log))
+      → find-batch b (open-batches (run-of a .log)) ≡ some y → u .number ≡ line .number → (desk : Desk) → desk ≡ desk-of (t .log) (d .stored) → write-line b (last-in b (desk .rows)) (line-by (line .adds) (line .key) (line .value)) (story o log) ≡ story o (t .log)
+  unfolding write-line story written
+  told t r b y line u e f num desk is =
       let sd = trail-standing o n most (u .trail) (standing o n m most stable log a d h x) in
       let bs = ap open-batches (run-log o n m most stable log a d h x) in
-      λ i. record { slides = sd .slides i; sheets = (sheets-write b (u .number) line (open-batches log) ∙ ap (λ z. sheets-of (change-batch b (written (u .number) line) z)) (sym bs) ∙ ap sheets-of (sym e ∙ sym (u .opens))) i }
+      let g : find-batch b (open-batches (t .log)) ≡ some (written (u .number) line y) = ap (find-batch b) (u .opens ∙ e) ∙ find-change b (written (u .number) line) (open-batches (run-of a .log)) y f refl in
+      let given : last-in b (desk .rows) ≡ line .number = ap (λ q. last-in b (q .rows)) is ∙ last-given b (t .log) (d .stored) _ (sd .core .chain) g ∙ num in
+      λ i. record { slides = sd .slides i; sheets = (ap (λ q. add-line b (record { number = q; line = line-by (line .adds) (line .key) (line .value) }) (sheets-of (open-batches log))) given ∙ sheets-write b (u .number) line (open-batches log) ∙ ap (λ z. sheets-of (change-batch b (written (u .number) line) z)) (sym bs) ∙ ap sheets-of (sym e ∙ sym (u .opens))) i }
 
-  told-insert : (b k v q page : ℕ) (t : Run) → Updated (run-of a) (slides-after o log) t (data-row Records.insert b q page k v) → write-line b (file k v) (story o log) ≡ story o (t .log)
+  told-insert : (b k v page : ℕ) (y : Batch) (t : Run) → Updated (run-of a) (slides-after o log) t (data-row Records.insert b (y .last) page k v) → find-batch b (open-batches (run-of a .log)) ≡ some y
+      → (desk : Desk) → desk ≡ desk-of (t .log) (d .stored) → write-line b (last-in b (desk .rows)) (file k v) (story o log) ≡ story o (t .log)
   unfolding line-by tell
-  told-insert b k v q page t u = told t (data-row Records.insert b q page k v) b (record { number = u .number; adds = true; key = k; value = v }) u refl
+  told-insert b k v page y t u f = told t (data-row Records.insert b (y .last) page k v) b y (record { number = u .number; adds = true; key = k; value = v }) u refl f refl
 
-  told-delete : (b k v q page : ℕ) (t : Run) → Updated (run-of a) (slides-after o log) t (data-row Records.delete b q page k v) → write-line b (strike k) (story o log) ≡ story o (t .log)
+  told-delete : (b k v page : ℕ) (y : Batch) (t : Run) → Updated (run-of a) (slides-after o log) t (data-row Records.delete b (y .last) page k v) → find-batch b (open-batches (run-of a .log)) ≡ some y
+      → (desk : Desk) → desk ≡ desk-of (t .log) (d .stored) → write-line b (last-in b (desk .rows)) (strike k) (story o log) ≡ story o (t .log)
   unfolding line-by tell
-  told-delete b k v q page t u = told t (data-row Records.delete b q page k v) b (record { number = u .number; adds = false; key = k; value = v }) u refl
+  told-delete b k v page y t u f = told t (data-row Records.delete b (y .last) page k v) b y (record { number = u .number; adds = false; key = k; value = v }) u refl f refl
 
   inserted : (b k v : ℕ) (y : Batch) → k ≤ top → v ≤ top → find-batch b (work-open a) ≡ some y → y .marked ≡ false → held b k (work-open a) ≡ false → fetched k (work-pages a) ≡ none → Room
       → insert-slide b k v a d ≡ kept-run Done a (put-record Records.insert b (y .last) k v (run-of a)) d → Passes o n m stable log (insert b k v) a d
-  unfolding outcome is-commit book-call kept-run
+  unfolding outcome is-commit book-call fed kept-run
   inserted b k v y kt vt f u hd ab rm is =
       let f′ : find-batch b (open-batches (run-of a .log)) ≡ some y = subst (λ z. find-batch b z ≡ some y) opens f in
       let hd′ : held b k (open-batches (run-of a .log)) ≡ false = subst (λ z. held b k z ≡ false) opens hd in
@@ -109,7 +116,7 @@ module _ (o : Origin) (n m : ℕ) (most : n ≤ map-bits) (stable log : List Rec
       let t = put-record Records.insert b (y .last) k v (run-of a) in
       let (page, up) = put-updated n most Records.insert b (y .last) k v (run-of a) (slides-after o log) core by-insert kt ab′ (λ p. insert-data n (run-of a) (slides-after o log) core b y f′ k v p u kt vt hd′ ab′) (kept .ready .goes) in
       calm-passes o n m most stable log a d h x (insert b k v) t refl (up .trail) (put-within m Records.insert b (y .last) k v (run-of a) (run-within o n m most stable log a d h x))
-      (ap (λ o. o .work) is) (ap (λ o. o .stores) is) (told-insert b k v (y .last) page t up)
+      (ap (λ o. o .work) is) (ap (λ o. o .stores) is) (told-insert b k v page y t up f′ (insert-slide b k v a d .desk) (ap (λ o. o .desk) is))
 
   pub insert-passes : (b k v : ℕ) → k ≤ top → v ≤ top → passed (outcome (insert b k v) a d .answer) ≡ true → Passes o n m stable log (insert b k v) a d
   unfolding outcome insert-slide insert-by insert-checks passed last-of
@@ -131,7 +138,7 @@ module _ (o : Origin) (n m : ℕ) (most : n ≤ map-bits) (stable log : List Rec
 
   deleted : (b k v : ℕ) (y : Batch) → k ≤ top → find-batch b (work-open a) ≡ some y → y .marked ≡ false → held b k (work-open a) ≡ false → fetched k (work-pages a) ≡ some v → Room
       → delete-slide b k a d ≡ kept-run Done a (remove-record Records.delete b (y .last) k v (run-of a)) d → Passes o n m stable log (delete b k) a d
-  unfolding outcome is-commit book-call kept-run
+  unfolding outcome is-commit book-call fed kept-run
   deleted b k v y kt f u hd th rm is =
       let f′ : find-batch b (open-batches (run-of a .log)) ≡ some y = subst (λ z. find-batch b z ≡ some y) opens f in
       let hd′ : held b k (open-batches (run-of a .log)) ≡ false = subst (λ z. held b k z ≡ false) opens hd in
@@ -140,7 +147,7 @@ module _ (o : Origin) (n m : ℕ) (most : n ≤ map-bits) (stable log : List Rec
       let t = remove-record Records.delete b (y .last) k v (run-of a) in
       let (page, up) = remove-updated n most Records.delete b (y .last) k v v (run-of a) (slides-after o log) core by-delete kt th′ (λ p. delete-data n (run-of a) (slides-after o log) core b y f′ k v p u kt hd′ th′) (kept .ready .goes) in
       calm-passes o n m most stable log a d h x (delete b k) t refl (up .trail) (remove-within m Records.delete b (y .last) k v (run-of a) (run-within o n m most stable log a d h x))
-      (ap (λ o. o .work) is) (ap (λ o. o .stores) is) (told-delete b k v (y .last) page t up)
+      (ap (λ o. o .work) is) (ap (λ o. o .stores) is) (told-delete b k v page y t up f′ (delete-slide b k a d .desk) (ap (λ o. o .desk) is))
 
   pub delete-passes : (b k : ℕ) → k ≤ top → passed (outcome (delete b k) a d .answer) ≡ true → Passes o n m stable log (delete b k) a d
   unfolding outcome delete-slide delete-by delete-checks passed last-of value-or

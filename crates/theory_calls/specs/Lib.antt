@@ -2,6 +2,7 @@ pub mod Stories
 pub mod LiveAreas
 pub mod Checks
 pub mod Passing
+pub mod Fed
 pub mod Questions
 pub mod Within
 pub mod Results

@@ -10,10 +10,12 @@ use Rattle.def_layout.specs.declared.Desk.{Desk}
 use Rattle.def_layout.specs.Pages.{at}
 use Rattle.def_layout.specs.Records.{Rec}
 use Rattle.def_model.specs.Update.{Run, emit}
+use Rattle.def_model.specs.Answers.{Outcome}
 use Rattle.def_model.specs.Areas.{Areas, Store, store-page, log-stores}
 use Rattle.def_model.specs.Calls.{run-of, run-side}
-use Rattle.def_model.specs.OnBytes.{Call, format, begin, restart, fetch, next, insert, delete, commit, abort, write-out, outcome}
-use Rattle.def_recovery.specs.Book.{book-call}
+use Rattle.def_model.specs.OnBytes.{Call, format, begin, restart, fetch, next, insert, delete, commit, abort, write-out, outcome, take-mark, return-to}
+use Rattle.def_recovery.specs.Book.{Book, book-call}
+use Rattle.def_recovery.specs.Events.{fed}
 use Rattle.def_recovery.specs.Demand3.{is-commit-of}
 use Rattle.theory_update.specs.Run.Way.{written-by, emit-goes}
 use Rattle.theory_history.specs.Origin.{Origin}
@@ -34,6 +36,12 @@ is-commit (delete n k) = false
 is-commit (commit n) = true
 is-commit (abort n) = false
 is-commit (write-out p) = false
+is-commit (take-mark n) = false
+is-commit (return-to n m) = false
+
+-- The book after a call that passed, fed as its desk then says.
+abbrev pub book-of : Call → Outcome → Book → Book
+book-of c o b = book-call c (o .answer) (fed c (o .desk)) b
 
 -- The slides stay at every first part of what follows a log.
 abbrev pub Fixed : Origin → List Rec → List Rec → Type 0
@@ -64,7 +72,7 @@ pub record Passes (o : Origin) (n m : ℕ) (stable log : List Rec) (c : Call) (a
   pub within : length (run .log) ≤ m
   pub stored : Stored n stable run (outcome c a d .stores)
   pub follows : Follows o stable c log run (outcome c a d .stores)
-  pub book : book-call c (outcome c a d .answer) (story o log) ≡ story o (run .log)
+  pub book : book-of c (outcome c a d) (story o log) ≡ story o (run .log)
 
 -- ---- runs
 

@@ -1,4 +1,4 @@
--- Fetch, next and write-out change no working page and no record.
+-- Fetch, next, mark and write-out change no working page and no record.
 use Prim.Native.Nat.{ℕ, _+_, _≤_}
 use mathlib.Core.Path.{_≡_, refl, sym, ap, _∙_, subst}
 use mathlib.Core.Bool.{true, false}
@@ -17,8 +17,8 @@ use Rattle.def_model.specs.Log.{log-area}
 use Rattle.def_model.specs.Areas.{Areas, store-page, log-stores}
 use Rattle.def_model.specs.Answers.{passed, check, first-broken}
 use Rattle.def_model.specs.Sound.{sound, work-pages, work-log}
-use Rattle.def_model.specs.Calls.{run-of, run-side, stored-run, fetch-checks, fetch-by, fetch-slide, next-checks, next-slide-by, next-slide, write-out-checks, write-out-by, write-out-page}
-use Rattle.def_model.specs.OnBytes.{Call, fetch, next, write-out, outcome}
+use Rattle.def_model.specs.Calls.{run-of, run-side, stored-run, fetch-checks, fetch-by, fetch-slide, next-checks, next-slide-by, next-slide, write-out-checks, write-out-by, write-out-page, mark-checks, latest-by, mark-batch}
+use Rattle.def_model.specs.OnBytes.{Call, fetch, next, write-out, outcome, take-mark}
 use Rattle.def_recovery.specs.Book.{book-call}
 use Rattle.theory_history.specs.Origin.{Origin}
 use Rattle.theory_history.specs.Start.{slides-after}
@@ -27,7 +27,7 @@ use Rattle.theory_history.specs.History.{History, Standing}
 use Rattle.theory_calls.specs.Stories.{story}
 use Rattle.theory_calls.specs.LiveAreas.{Holds, live-log, live-slots, live-count, live-standing, live-same, stored-count}
 use Rattle.theory_calls.specs.Checks.{none-broken, kept-check, sound-parts}
-use Rattle.theory_calls.specs.Passing.{is-commit, Stored, calm, nothing, log-and-page, quietly, Passes}
+use Rattle.theory_calls.specs.Passing.{is-commit, book-of, Stored, calm, nothing, log-and-page, quietly, Passes}
 
 nothing-first : (o : Origin) (log a b : List Rec) → [] ≡ a ++ b → slides-after o (log ++ a) ≡ slides-after o log
 nothing-first o log [] b e = ap (slides-after o) (append-nil log)
@@ -38,7 +38,7 @@ module _ (o : Origin) (n m : ℕ) (stable log : List Rec) (a : Areas) (d : Desk)
   standing = live-standing o n m log a h x
 
   -- A call that leaves everything as it is.
-  same : (c : Call) → outcome c a d .work ≡ a .work → outcome c a d .stores ≡ [] → is-commit c ≡ false → book-call c (outcome c a d .answer) (story o log) ≡ story o log → Passes o n m stable log c a d
+  same : (c : Call) → outcome c a d .work ≡ a .work → outcome c a d .stores ≡ [] → is-commit c ≡ false → book-of c (outcome c a d) (story o log) ≡ story o log → Passes o n m stable log c a d
   unfolding run-of
   same c w s q b =
       let l = live-log o n m log a h in
@@ -68,6 +68,14 @@ module _ (o : Origin) (n m : ℕ) (stable log : List Rec) (a : Areas) (d : Desk)
       go : (z : Option Refusal) → first-broken (next-checks b k a d) ≡ z → passed (next-slide-by z k a d .answer) ≡ true → Passes o n m stable log (next b k) a d
       go (some r) e p = clash (sym p)
       go none e p = same (next b k) (ap (λ o. next-slide-by o k a d .work) e) (ap (λ o. next-slide-by o k a d .stores) e) refl refl
+
+  pub mark-passes : (b : ℕ) → passed (outcome (take-mark b) a d .answer) ≡ true → Passes o n m stable log (take-mark b) a d
+  unfolding outcome mark-batch latest-by passed is-commit book-call
+  mark-passes b p = go (first-broken (mark-checks b a d)) refl p
+    where
+      go : (z : Option Refusal) → first-broken (mark-checks b a d) ≡ z → passed (latest-by z b a d .answer) ≡ true → Passes o n m stable log (take-mark b) a d
+      go (some r) e p = clash (sym p)
+      go none e p = same (take-mark b) (ap (λ o. latest-by o b a d .work) e) (ap (λ o. latest-by o b a d .stores) e) refl refl
 
   pub write-out-passes : (q : ℕ) → a .stable .log ≡ log-area m stable → passed (outcome (write-out q) a d .answer) ≡ true → Passes o n m stable log (write-out q) a d
   unfolding outcome write-out-page write-out-by write-out-checks passed is-commit book-call stored-run run-of

@@ -35,6 +35,7 @@ use Rattle.theory_history.specs.History.{History, Standing, trail-standing}
 use Rattle.theory_history.specs.Redoing.{Image, image-layouts, image-log, image-redo-fits, image-tree, image-pending, redone-standing, stable-log-is}
 use Rattle.law_areas.specs.Typed.{log-area-length}
 use Rattle.theory_calls.specs.Stories.{story, sheets-of}
+use Rattle.theory_calls.specs.Passing.{book-of}
 
 skip : (b : Bool) (r : Refusal) (cs : List Check) → b ≡ true → first-broken (check (not b) r ∷ cs) ≡ first-broken cs
 unfolding first-broken
@@ -113,6 +114,6 @@ module _ (o : Origin) (n m : ℕ) (least : o .least ≤ n) (most : n ≤ map-bit
   restart-within = let e = ap length (i .logged) ∙ log-area-length m log (i .fits) in let l = restarted-within a in omega arith
 
   -- A finished restart drops all sheets.
-  pub restart-book : restarted a .stop ≡ 0 → (b : Book) → b .slides ≡ slides-after o log → book-call restart (outcome restart a d .answer) b ≡ story o (restarted a .log)
+  pub restart-book : restarted a .stop ≡ 0 → (b : Book) → b .slides ≡ slides-after o log → book-of restart (outcome restart a d) b ≡ story o (restarted a .log)
   unfolding book-call abort-sheets story sheets-of
   restart-book z b e = let f = finished z in λ j. record { slides = (e ∙ f .standing .slides) j; sheets = sheets-of (sym (f .closed) j) }

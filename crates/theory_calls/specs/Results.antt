@@ -14,7 +14,6 @@ use Rattle.def_model.specs.Sound.{work-log, work-slots}
 use Rattle.def_model.specs.Batches.{tell, open-batches}
 use Rattle.def_model.specs.Calls.{run-of, run-side}
 use Rattle.def_model.specs.OnBytes.{Call, outcome}
-use Rattle.def_recovery.specs.Book.{book-call}
 use Rattle.theory_ledger.specs.Telling.{slides-by, slides-more, open-more}
 use Rattle.theory_history.specs.Origin.{Origin}
 use Rattle.theory_history.specs.Start.{slides-after}
@@ -23,7 +22,7 @@ use Rattle.theory_history.specs.History.{History, Standing, trail-standing, tra
 use Rattle.theory_room.specs.Reasons.{Within}
 use Rattle.theory_calls.specs.Stories.{story, sheets-of}
 use Rattle.theory_calls.specs.LiveAreas.{Holds, live-log, live-slots, live-standing}
-use Rattle.theory_calls.specs.Passing.{is-commit, calm, Stored, nothing, quietly, Passes, standing-slides}
+use Rattle.theory_calls.specs.Passing.{is-commit, book-of, calm, Stored, nothing, quietly, Passes, standing-slides}
 
 -- The story with one record more.
 pub story-more : (o : Origin) (log : List Rec) (r : Rec) → story o (log ++ r ∷ []) ≡ record { slides = slides-by (r .kind) r (open-batches log) (slides-after o log); sheets = sheets-of (tell (r .kind) (suc (length log)) r (open-batches log)) }
@@ -50,7 +49,7 @@ module _ (o : Origin) (n m : ℕ) (most : n ≤ map-bits) (stable log : List Rec
 
   -- A trail as a call's result.
   pub calm-passes : (c : Call) (t : Run) → is-commit c ≡ false → Trail (run-of a) (slides-after o log) t (slides-after o log) → Within m t → outcome c a d .work ≡ run-side (work-slots a) t → outcome c a d .stores ≡ []
-      → book-call c (outcome c a d .answer) (story o log) ≡ story o (t .log) → Passes o n m stable log c a d
+      → book-of c (outcome c a d) (story o log) ≡ story o (t .log) → Passes o n m stable log c a d
   calm-passes c t q p w wk st b =
       let y = trail-standing o n most p standing in
       let g = trail-longer p in

@@ -2,12 +2,11 @@
 use Prim.Native.Nat.{ℕ}
 use mathlib.Core.Path.{_≡_}
 use mathlib.Core.Bool.{Bool, true, false}
-use mathlib.Core.List.{List, [], _∷_}
 use Rattle.def_layout.specs.Records.{Kind, undo-insert, undo-delete}
 use Rattle.def_model.specs.Update.{Run, stopped, put-record, remove-record}
-use Rattle.def_model.specs.Batches.{Line, Batch, next-undo}
-use Rattle.def_model.specs.Undo.{undo-by, undo-line, undo-lines, end-batch, abort-run}
-use Rattle.theory_update.specs.Run.Keeps.{keep-find-add, keep-find-remove}
+use Rattle.def_model.specs.Batches.{Line, Batch}
+use Rattle.def_model.specs.Undo.{undo-by, undo-line, return-run, end-batch, abort-run}
+use Rattle.theory_update.specs.Run.Keeps.{keep-find-add, keep-find-remove, keep-above}
 use Rattle.theory_room.specs.Reasons.{Within, emit-within}
 
 stop-within : (m : ℕ) (s : Run) → s .stop ≡ 0 → Within m s → Within m (stopped 18 s)
@@ -26,11 +25,10 @@ unfolding undo-by
 by-within m true n next l s w = remove-within m undo-insert n next (l .key) 0 s w
 by-within m false n next l s w = put-within m undo-delete n next (l .key) (l .value) s w
 
-lines-within : (m n : ℕ) (ls : List Line) (s : Run) → Within m s → Within m (undo-lines n ls s)
-unfolding undo-lines undo-line
-lines-within m n [] s w = w
-lines-within m n (l ∷ ls) s w = lines-within m n ls (undo-line n (next-undo ls) l s) (by-within m (l .adds) n (next-undo ls) l s w)
+pub return-within : (m mark : ℕ) (b : Batch) (s : Run) → Within m s → Within m (return-run mark b s)
+unfolding return-run undo-line
+return-within m mark b s w = keep-above (Within m) (b .number) (λ next l s. by-within m (l .adds) (b .number) next l s) mark (b .lines) s w
 
 pub abort-within : (m : ℕ) (b : Batch) (s : Run) → Within m s → Within m (abort-run b s)
 unfolding abort-run end-batch
-abort-within m b s w = emit-within m _ _ (lines-within m (b .number) (b .lines) _ (emit-within m _ s w))
+abort-within m b s w = emit-within m _ _ (return-within m 0 b _ (emit-within m _ s w))

@@ -10,9 +10,9 @@ use lib.Dec.{ltb}
 use Rattle.def_base.specs.Tests.{Case, yes!, no!, case}
 use Rattle.def_layout.specs.Records.{Rec, abort-mark, batch-row}
 use Rattle.def_model.specs.Update.{Run, going, logged, emit-by, emit, put-record, remove-record}
-use Rattle.def_model.specs.Batches.{Line, Batch, drop-batch, next-undo, undone, mark-set, tell, open-batches}
-use Rattle.def_model.specs.Undo.{undo-by, undo-line, undo-lines, end-batch, abort-run}
-use Rattle.theory_update.specs.Run.Keeps.{Structural, keep-find-add, keep-find-remove, stuck-emit}
+use Rattle.def_model.specs.Batches.{Line, Batch, drop-batch, undone, mark-set, tell, open-batches}
+use Rattle.def_model.specs.Undo.{undo-by, undo-line, undo-above, return-run, end-batch, abort-run}
+use Rattle.theory_update.specs.Run.Keeps.{Structural, keep-find-add, keep-find-remove, keep-above, stuck-emit}
 use Rattle.theory_update.specs.Run.Way.{emit-goes, emit-stops}
 use Rattle.theory_ledger.specs.Batching.{drop-change}
 use Rattle.theory_ledger.specs.Telling.{open-more}
@@ -60,10 +60,9 @@ module _ (n : ℕ) (others : List Batch) where
   beside-undo true next l s i = beside-emit _ _ (λ m bs. drop-change n (undone m) bs (λ b. refl)) (keep-find-remove Beside beside-tree (λ t z j. j) _ (l .key) s i)
   beside-undo false next l s i = beside-emit _ _ (λ m bs. drop-change n (undone m) bs (λ b. refl)) (keep-find-add Beside beside-tree (λ t z j. j) (l .key) s i)
 
-  beside-lines : (ls : List Line) (s : Run) → Beside s → Beside (undo-lines n ls s)
-  unfolding undo-lines undo-line
-  beside-lines [] s i = i
-  beside-lines (l ∷ ls) s i = beside-lines ls (undo-line n (next-undo ls) l s) (beside-undo (l .adds) (next-undo ls) l s i)
+  beside-above : (mark : ℕ) (ls : List Line) (s : Run) → Beside s → Beside (undo-above mark n ls s)
+  unfolding undo-line
+  beside-above mark ls s i = keep-above Beside n (λ next l s. beside-undo (l .adds) next l s) mark ls s i
 
   beside-mark : (previous : ℕ) (s : Run) → Beside s → Beside (emit (batch-row abort-mark n previous) s)
   unfolding tell mark-set
@@ -71,9 +70,9 @@ module _ (n : ℕ) (others : List Batch) where
 
 -- AN ABORT that did not stop takes its batch away.
 pub open-aborted : (b : Batch) (s : Run) → abort-run b s .stop ≡ 0 → open-batches (abort-run b s .log) ≡ drop-batch (b .number) (open-batches (s .log))
-unfolding abort-run end-batch tell
+unfolding abort-run return-run end-batch tell
 open-aborted b s z =
     let others = drop-batch (b .number) (open-batches (s .log)) in
     let t = emit (batch-row abort-mark (b .number) (b .last)) s in
-    let u = undo-lines (b .number) (b .lines) t in
-    ap open-batches (emit-log _ u z) ∙ open-more (u .log) _ ∙ beside-lines (b .number) others (b .lines) t (beside-mark (b .number) others (b .last) s refl)
+    let u = undo-above 0 (b .number) (b .lines) t in
+    ap open-batches (emit-log _ u z) ∙ open-more (u .log) _ ∙ beside-above (b .number) others 0 (b .lines) t (beside-mark (b .number) others (b .last) s refl)

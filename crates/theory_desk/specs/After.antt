@@ -14,6 +14,7 @@ use Rattle.def_layout.specs.Records.{Rec, Kind, begin, insert, delete, commit, 
 use Rattle.def_model.specs.Batches.{Line, Batch, next-undo, change-batch, drop-batch, written, tell, open-batches, chain-ok, row-of, desk-of}
 use Rattle.theory_update.specs.Run.Keeps.{Structural, splitting, linking, unlinking, merging, sharing, raising, lowering}
 use Rattle.theory_update.specs.Run.Wrote.{AllStructural}
+use Rattle.theory_ledger.specs.Marks.{left-with}
 use Rattle.theory_ledger.specs.Batching.{find-number}
 use Rattle.theory_ledger.specs.Telling.{open-more}
 use Rattle.law_bytes.specs.DeskRows.{place-of, new-row, without}
@@ -113,6 +114,17 @@ module _ (log : List Rec) (d : Desk) (chain : chain-ok 1 log [] ≡ true) (said 
   unfolding tell
   desk-deleted after body b previous a k v i p n stored nz e h ep q w en =
       wrote-desk after b i p n stored (record { number = length after; adds = false; key = k; value = v }) nz e h ep en refl (open-last log after body (data-row delete b previous a k v) q w)
+
+  -- ---- a return: its batch's row has another last record, and fewer lines
+
+  pub desk-returned : (after : List Rec) (b i last n stored : ℕ) (ls : List Line) → b ≢ 0 → i ≡ place-of b (d .rows) → i < 8 → open-batches after ≡ change-batch b (left-with last ls) (open-batches log) → n ≡ length after
+      → desk-of after stored ≡ record { rows = set (d .rows) i (record { batch = b; last = last; undo = next-undo ls; pending = length ls }); logged = n; stored = stored }
+  unfolding row-of left-with
+  desk-returned after b i last n stored ls nz e h o en =
+      let x = batch-at (open-batches log) i in
+      let num : x .number ≡ b = sym (find-number b (open-batches log) x (said-found log d chain said b i nz e h)) in
+      desk-by after (set (d .rows) i (record { batch = b; last = last; undo = next-undo ls; pending = length ls })) n stored
+      (ap rows-of o ∙ changed-rows b i (left-with last ls) nz e h ∙ (λ j. set (d .rows) i (record { batch = num j; last = last; undo = next-undo ls; pending = length ls }))) en
 
   -- ---- a batch gone: its row goes, and the rest close up
 

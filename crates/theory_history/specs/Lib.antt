@@ -8,6 +8,7 @@ pub mod TreeTrail
 pub mod Updating
 pub mod BatchData
 pub mod Undoing
+pub mod OwnRecords
 pub mod Marking
 pub mod Settling
 pub mod History

@@ -16,7 +16,7 @@ use Rattle.def_model.specs.Undo.{mark-all, end-idle, newer, newest-due, with-li
 use Rattle.def_model.specs.Restart.{settle}
 use Rattle.theory_update.specs.Run.Keeps.{Stuck}
 use Rattle.theory_ledger.specs.Held.{Distinct}
-use Rattle.theory_ledger.specs.Batching.{LinesWithin, Within, distinct-change}
+use Rattle.theory_ledger.specs.Batching.{Falls, Within, distinct-change}
 use Rattle.theory_ledger.specs.Telling.{numbered-open}
 use Rattle.theory_history.specs.Core.{Core}
 use Rattle.theory_history.specs.Trail
@@ -91,15 +91,15 @@ unfoldable pub Positive : List Batch → Type 0
 Positive [] = Unit {0}
 Positive (b ∷ bs) = PositiveLines (b .lines) × Positive bs
 
-within-lines : (m : ℕ) (ls : List Line) → LinesWithin m ls → PositiveLines ls
-unfolding LinesWithin PositiveLines
-within-lines m [] h = tt
-within-lines m (l ∷ ls) h = (h .0, within-lines m ls (h .2))
+falls-positive : (n : ℕ) (ls : List Line) → Falls n ls → PositiveLines ls
+unfolding Falls PositiveLines
+falls-positive n [] h = tt
+falls-positive n (l ∷ ls) h = (h .0, falls-positive (l .number) ls (h .2))
 
 within-positive : (m : ℕ) (bs : List Batch) → Within m bs → Positive bs
 unfolding Within Positive
 within-positive m [] h = tt
-within-positive m (b ∷ bs) h = (within-lines m (b .lines) (h .1), within-positive m bs (h .2))
+within-positive m (b ∷ bs) h = (falls-positive (suc m) (b .lines) (h .1), within-positive m bs (h .2))
 
 none-due : (ls : List Line) → PositiveLines ls → next-undo ls ≤ 0 → length ls ≡ 0
 unfolding PositiveLines next-undo

@@ -65,31 +65,62 @@ drop-change n f (b ∷ bs) k = go (case (eqb n (b .number))) (drop-change n f bs
     go (no! t) i = rw (t, t, i)
     go (yes! t) i = rw (t, eq-true n (f b .number) (true-eq n (b .number) t ∙ sym (k b)))
 
+-- A batch that the change leaves as it is; and one change after another.
+pub change-none : (n : ℕ) (f : Batch → Batch) (bs : List Batch) (b : Batch) → find-batch n bs ≡ some b → f b ≡ b → change-batch n f bs ≡ bs
+unfolding find-batch change-batch
+change-none n f [] b e k = refl
+change-none n f (a ∷ bs) b e k = go (case (eqb n (a .number))) (change-none n f bs b)
+  where
+    go : Case (eqb n (a .number)) → (find-batch n bs ≡ some b → f b ≡ b → change-batch n f bs ≡ bs) → pick (eqb n (a .number)) (f a ∷ bs) (a ∷ change-batch n f bs) ≡ a ∷ bs
+    go (yes! t) i = rw t (ap (_∷ bs) (subst (λ x. f x ≡ x) (sym (some-inj (rw t at e))) k))
+    go (no! t) i = rw t (ap (a ∷_) (i (rw t at e) k))
+
+pub change-twice : (n : ℕ) (f g : Batch → Batch) (bs : List Batch) → ((b : Batch) → g b .number ≡ b .number) → change-batch n f (change-batch n g bs) ≡ change-batch n (λ b. f (g b)) bs
+unfolding change-batch
+change-twice n f g [] k = refl
+change-twice n f g (b ∷ bs) k = go (case (eqb n (b .number))) (change-twice n f g bs k)
+  where
+    go : Case (eqb n (b .number)) → change-batch n f (change-batch n g bs) ≡ change-batch n (λ b. f (g b)) bs
+        → change-batch n f (pick (eqb n (b .number)) (g b ∷ bs) (b ∷ change-batch n g bs)) ≡ pick (eqb n (b .number)) (f (g b) ∷ bs) (b ∷ change-batch n (λ b. f (g b)) bs)
+    go (no! t) i = rw (t, t, i)
+    go (yes! t) i = rw (t, eq-true n (g b .number) (true-eq n (b .number) t ∙ sym (k b)))
+
 -- ---- numbers
 
--- The batches' numbers and their lines' are not above m; lines are numbered from 1.
-unfoldable pub LinesWithin : ℕ → List Line → Type 0
-LinesWithin m [] = Unit {0}
-LinesWithin m (l ∷ ls) = (0 < l .number) × (l .number ≤ m) × LinesWithin m ls
+-- Lines' numbers fall strictly, from below n down to 1 at least: the newest first.
+unfoldable pub Falls : ℕ → List Line → Type 0
+Falls n [] = Unit {0}
+Falls n (l ∷ ls) = (0 < l .number) × (l .number < n) × Falls (l .number) ls
 
+-- The batches' numbers and their lines' are not above m.
 unfoldable pub Within : ℕ → List Batch → Type 0
 Within m [] = Unit {0}
-Within m (b ∷ bs) = (b .number ≤ m) × LinesWithin m (b .lines) × Within m bs
+Within m (b ∷ bs) = (b .number ≤ m) × Falls (suc m) (b .lines) × Within m bs
 
-pub lines-within-more : (m : ℕ) (ls : List Line) → LinesWithin m ls → LinesWithin (suc m) ls
-unfolding LinesWithin
-lines-within-more m [] h = tt
-lines-within-more m (l ∷ ls) h = let a = h .1 in (h .0, omega arith, lines-within-more m ls (h .2))
+pub falls-more : (m n : ℕ) (ls : List Line) → m ≤ n → Falls m ls → Falls n ls
+unfolding Falls
+falls-more m n [] l h = tt
+falls-more m n (x ∷ ls) l h = let a = h .1 in (h .0, omega arith, h .2)
 
 pub within-more : (m : ℕ) (bs : List Batch) → Within m bs → Within (suc m) bs
 unfolding Within
 within-more m [] h = tt
-within-more m (b ∷ bs) h = let a = h .0 in (omega arith, lines-within-more m (b .lines) (h .1), within-more m bs (h .2))
+within-more m (b ∷ bs) h = let a = h .0 in (omega arith, falls-more (suc m) (suc (suc m)) (b .lines) (omega arith) (h .1), within-more m bs (h .2))
 
 pub within-fresh : (m n : ℕ) (bs : List Batch) → m < n → Within m bs → Fresh n bs
 unfolding Within Fresh
 within-fresh m n [] l h = tt
 within-fresh m n (b ∷ bs) l h = let a = h .0 in (omega arith, within-fresh m n bs l (h .2))
+
+-- An open batch's lines.
+pub within-found : (m n : ℕ) (bs : List Batch) (b : Batch) → Within m bs → find-batch n bs ≡ some b → Falls (suc m) (b .lines)
+unfolding Within find-batch
+within-found m n [] b h e = none-some e
+within-found m n (a ∷ bs) b h e = go (case (eqb n (a .number))) (within-found m n bs b (h .2))
+  where
+    go : Case (eqb n (a .number)) → (find-batch n bs ≡ some b → Falls (suc m) (b .lines)) → Falls (suc m) (b .lines)
+    go (yes! t) i = subst (λ y. Falls (suc m) (y .lines)) (some-inj (rw t at e)) (h .1)
+    go (no! t) i = i (rw t at e)
 
 -- ---- what each record does to them
 
@@ -138,15 +169,16 @@ distinct-end (a ∷ bs) b f h = (more bs (h .0), distinct-end bs b (f .1) (h .1)
     more [] g = ((λ e. f .0 (sym e)), tt)
     more (c ∷ cs) g = (g .0, more cs (g .1))
 
-pub within-change : (m n : ℕ) (f : Batch → Batch) (bs : List Batch) → ((b : Batch) → f b .number ≡ b .number) → ((b : Batch) → LinesWithin m (b .lines) → LinesWithin m (f b .lines))
-    → Within m bs → Within m (change-batch n f bs)
+-- By record m + 1.
+pub within-change : (m n : ℕ) (f : Batch → Batch) (bs : List Batch) → ((b : Batch) → f b .number ≡ b .number) → ((b : Batch) → Falls (suc m) (b .lines) → Falls (suc (suc m)) (f b .lines))
+    → Within m bs → Within (suc m) (change-batch n f bs)
 unfolding Within change-batch
 within-change m n f [] k g h = tt
 within-change m n f (b ∷ bs) k g h = go (eqb n (b .number)) (within-change m n f bs k g (h .2))
   where
-    go : (t : Bool) → Within m (change-batch n f bs) → Within m (pick t (f b ∷ bs) (b ∷ change-batch n f bs))
-    go true i = (subst (λ x. x ≤ m) (sym (k b)) (h .0), g b (h .1), h .2)
-    go false i = (h .0, h .1, i)
+    go : (t : Bool) → Within (suc m) (change-batch n f bs) → Within (suc m) (pick t (f b ∷ bs) (b ∷ change-batch n f bs))
+    go true i = let a = h .0 in (subst (λ x. x ≤ suc m) (sym (k b)) (omega arith), g b (h .1), within-more m bs (h .2))
+    go false i = let a = h .0 in (omega arith, falls-more (suc m) (suc (suc m)) (b .lines) (omega arith) (h .1), i)
 
 pub within-drop : (m n : ℕ) (bs : List Batch) → Within m bs → Within m (drop-batch n bs)
 unfolding Within drop-batch
@@ -157,7 +189,7 @@ within-drop m n (b ∷ bs) h = go (eqb n (b .number)) (within-drop m n bs (h .2)
     go true i = h .2
     go false i = (h .0, h .1, i)
 
-pub within-end : (m : ℕ) (bs : List Batch) (b : Batch) → b .number ≤ m → LinesWithin m (b .lines) → Within m bs → Within m (bs ++ b ∷ [])
+pub within-end : (m : ℕ) (bs : List Batch) (b : Batch) → b .number ≤ m → Falls (suc m) (b .lines) → Within m bs → Within m (bs ++ b ∷ [])
 unfolding Within
 within-end m [] b l g h = (l, g, tt)
 within-end m (a ∷ bs) b l g h = (h .0, h .1, within-end m bs b l g (h .2))

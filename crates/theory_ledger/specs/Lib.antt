@@ -6,3 +6,5 @@ pub mod Small
 pub mod PendingRule
 pub mod Batching
 pub mod Telling
+pub mod Marks
+pub mod TakenBack

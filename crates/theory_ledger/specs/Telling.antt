@@ -13,7 +13,7 @@ use Rattle.def_layout.specs.Records.{Rec, Kind, begin, insert, delete, undo-ins
 use Rattle.def_model.specs.Batches.{Line, Batch, find-batch, change-batch, rest-of, written, undone, mark-set, tell, told, open-batches, chain-step, chain-ok}
 use Rattle.theory_ledger.specs.Held.{Distinct}
 use Rattle.theory_ledger.specs.Runs.{carry-lines}
-use Rattle.theory_ledger.specs.Batching.{LinesWithin, Within, within-more, within-fresh, distinct-change, distinct-drop, distinct-end, within-change, within-drop, within-end}
+use Rattle.theory_ledger.specs.Batching.{Falls, Within, falls-more, within-more, within-fresh, distinct-change, distinct-drop, distinct-end, within-change, within-drop, within-end}
 
 -- The number due after a log.
 pub number-due : (log : List Rec) → 1 + length log ≡ suc (length log)
@@ -54,20 +54,20 @@ pub record Numbered (m : ℕ) (bs : List Batch) : Type 0 where
   pub distinct : Distinct bs
   pub within : Within m bs
 
-numbered-change : (m n : ℕ) (f : Batch → Batch) (bs : List Batch) → ((b : Batch) → f b .number ≡ b .number) → ((b : Batch) → LinesWithin (suc m) (b .lines) → LinesWithin (suc m) (f b .lines))
+numbered-change : (m n : ℕ) (f : Batch → Batch) (bs : List Batch) → ((b : Batch) → f b .number ≡ b .number) → ((b : Batch) → Falls (suc m) (b .lines) → Falls (suc (suc m)) (f b .lines))
     → Numbered m bs → Numbered (suc m) (change-batch n f bs)
-numbered-change m n f bs k g h = record { distinct = distinct-change n f bs k (h .distinct); within = within-change (suc m) n f bs k g (within-more m bs (h .within)) }
+numbered-change m n f bs k g h = record { distinct = distinct-change n f bs k (h .distinct); within = within-change m n f bs k g (h .within) }
 
 numbered-same : (m : ℕ) (bs : List Batch) → Numbered m bs → Numbered (suc m) bs
 numbered-same m bs h = record { distinct = h .distinct; within = within-more m bs (h .within) }
 
-fewer-within : (m : ℕ) (ls : List Line) → LinesWithin m ls → LinesWithin m (rest-of ls)
-unfolding LinesWithin rest-of
-fewer-within m [] h = tt
-fewer-within m (l ∷ ls) h = h .2
+fewer-fall : (n : ℕ) (ls : List Line) → Falls n ls → Falls (suc n) (rest-of ls)
+unfolding Falls rest-of
+fewer-fall n [] h = tt
+fewer-fall n (l ∷ ls) h = let a = h .1 in falls-more (l .number) (suc n) ls (omega arith) (h .2)
 
 pub numbered-tell : (k : Kind) (m : ℕ) (r : Rec) (bs : List Batch) → Numbered m bs → Numbered (suc m) (tell k (suc m) r bs)
-unfolding tell written undone mark-set LinesWithin
+unfolding tell written undone mark-set Falls
 numbered-tell begin m r bs h =
     record {
       distinct = distinct-end bs _ (within-fresh m (suc m) bs (omega arith) (h .within)) (h .distinct);
@@ -75,10 +75,10 @@ numbered-tell begin m r bs h =
     }
 numbered-tell insert m r bs h = numbered-change m (r .batch) _ bs (λ b. refl) (λ b w. (omega arith, omega arith, w)) h
 numbered-tell delete m r bs h = numbered-change m (r .batch) _ bs (λ b. refl) (λ b w. (omega arith, omega arith, w)) h
-numbered-tell undo-insert m r bs h = numbered-change m (r .batch) _ bs (λ b. refl) (λ b w. fewer-within (suc m) (b .lines) w) h
-numbered-tell undo-delete m r bs h = numbered-change m (r .batch) _ bs (λ b. refl) (λ b w. fewer-within (suc m) (b .lines) w) h
+numbered-tell undo-insert m r bs h = numbered-change m (r .batch) _ bs (λ b. refl) (λ b w. fewer-fall (suc m) (b .lines) w) h
+numbered-tell undo-delete m r bs h = numbered-change m (r .batch) _ bs (λ b. refl) (λ b w. fewer-fall (suc m) (b .lines) w) h
 numbered-tell commit m r bs h = record { distinct = distinct-drop (r .batch) bs (h .distinct); within = within-drop (suc m) (r .batch) bs (within-more m bs (h .within)) }
-numbered-tell abort-mark m r bs h = numbered-change m (r .batch) _ bs (λ b. refl) (λ b w. w) h
+numbered-tell abort-mark m r bs h = numbered-change m (r .batch) _ bs (λ b. refl) (λ b w. falls-more (suc m) (suc (suc m)) (b .lines) (omega arith) w) h
 numbered-tell end m r bs h = record { distinct = distinct-drop (r .batch) bs (h .distinct); within = within-drop (suc m) (r .batch) bs (within-more m bs (h .within)) }
 numbered-tell split m r bs h = numbered-same m bs h
 numbered-tell link m r bs h = numbered-same m bs h

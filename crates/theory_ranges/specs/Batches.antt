@@ -10,7 +10,7 @@ use Rattle.def_base.specs.Tests.{pick, Case, yes!, no!, case, clash, none-some,
 use Rattle.def_layout.specs.Entries.{top}
 use Rattle.def_layout.specs.Records.{Rec, Kind, begin, insert, delete, undo-insert, undo-delete, commit, abort-mark, end, split, link, unlink, merge, redistribute, raise, lower}
 use Rattle.def_model.specs.Batches.{Line, Batch, find-batch, change-batch, drop-batch, rest-of, next-undo, written, undone, mark-set, tell, follows, unmarked, undoes-line, newest-is, undoes, nothing-pending, chains}
-use Rattle.theory_ledger.specs.Batching.{LinesWithin, Within, find-number}
+use Rattle.theory_ledger.specs.Batching.{Falls, Within, within-found, find-number}
 use Rattle.law_widths.specs.Each.{Each, each-append, each-map}
 
 -- ---- one batch of a list
@@ -126,31 +126,24 @@ pub record Says (m : ℕ) (k : Kind) (r : Rec) : Type 0 where
   pub previous-within : r .previous ≤ m
   pub value-small : k ≡ undo-delete → r .second ≤ top
 
-within-found : (m n : ℕ) (bs : List Batch) (b : Batch) → Within m bs → find-batch n bs ≡ some b → LinesWithin m (b .lines)
-unfolding Within find-batch
-within-found m n [] b h e = none-some e
-within-found m n (a ∷ bs) b h e = go (case (eqb n (a .number))) (within-found m n bs b (h .2))
-  where
-    go : Case (eqb n (a .number)) → (find-batch n bs ≡ some b → LinesWithin m (b .lines)) → LinesWithin m (b .lines)
-    go (yes! t) i = subst (λ y. LinesWithin m (y .lines)) (some-inj (rw t at e)) (h .1)
-    go (no! t) i = i (rw t at e)
+next-falls : (n : ℕ) (ls : List Line) → Falls n ls → next-undo ls ≤ n
+unfolding Falls next-undo
+next-falls n [] h = omega arith
+next-falls n (l ∷ ls) h = let a = h .1 in omega arith
 
-next-within : (m : ℕ) (ls : List Line) → LinesWithin m ls → next-undo ls ≤ m
-unfolding LinesWithin next-undo
-next-within m [] h = omega arith
-next-within m (l ∷ ls) h = h .1
-
-lines-say : (m : ℕ) (r : Rec) (adds : Bool) (ls : List Line) → LinesWithin m ls → Each (λ l. l .value ≤ top) ls → newest-is adds (r .second) ls ≡ true → undoes-line r ls ≡ true
+lines-say : (m : ℕ) (r : Rec) (adds : Bool) (ls : List Line) → Falls (suc m) ls → Each (λ l. l .value ≤ top) ls → newest-is adds (r .second) ls ≡ true → undoes-line r ls ≡ true
     → (r .previous ≤ m) × (adds ≡ false → r .second ≤ top)
-unfolding LinesWithin Each newest-is undoes-line
+unfolding Falls Each newest-is undoes-line
 lines-say m r adds [] w v x y = clash (sym y)
 lines-say m r true (l ∷ ls) w v x y =
     let p = true-eq (r .previous) (next-undo ls) (and-true (eqb (r .key) (l .key)) (eqb (r .previous) (next-undo ls)) y .1) in
-    let n = next-within m ls (w .2) in
+    let n = next-falls (l .number) ls (w .2) in
+    let f = w .1 in
     (omega arith, λ z. clash z)
 lines-say m r false (l ∷ ls) w v x y =
     let p = true-eq (r .previous) (next-undo ls) (and-true (eqb (r .key) (l .key)) (eqb (r .previous) (next-undo ls)) y .1) in
-    let n = next-within m ls (w .2) in
+    let n = next-falls (l .number) ls (w .2) in
+    let f = w .1 in
     let q = true-eq (r .second) (l .value) (and-true (not (l .adds)) (eqb (r .second) (l .value)) x .1) in
     let u = v .0 in
     (omega arith, λ z. omega arith)

@@ -17,12 +17,12 @@ use Rattle.def_model.specs.declared.Answer.{Answer}
 use Rattle.def_model.specs.Answers.{answer-numbers, passed, first-broken}
 use Rattle.def_model.specs.Areas.{Areas}
 use Rattle.def_model.specs.Calls.{begin-by, begin-batch, begin-checks, kept-run}
-use Rattle.def_model.specs.OnBytes.{Call, format, begin, restart, fetch, next, insert, delete, commit, abort, write-out, Lent, lengths-ok, read-areas, outcome, call-by, call, lent-after}
-use Rattle.def_recovery.specs.Book.{Book, open-sheet, book-call}
-use Rattle.def_recovery.specs.Events.{World, Event, result, passes, book-after, end-call, cut-call, grow, happen, happen-all}
+use Rattle.def_model.specs.OnBytes.{Call, format, begin, restart, fetch, next, insert, delete, commit, abort, write-out, Lent, lengths-ok, read-areas, outcome, call-by, call, lent-after, take-mark, return-to}
+use Rattle.def_recovery.specs.Book.{Book, file, strike, open-sheet, write-line, book-call}
+use Rattle.def_recovery.specs.Events.{World, Event, result, passes, last-in, fed, is-format, is-restart, book-after, end-call, cut-call, grow, happen, happen-all}
 use Rattle.def_recovery.specs.Events as typed
 use Rattle.def_c.specs.FromC.{values-size, value-bytes, areas-left, answered, sizes-ok, returned-by, c-call, c-stores-by, c-stores}
-use Rattle.def_c.specs.EventsOfC.{CWorld, as-world, CRubble, CEvent, ended, cut, grown, returns, returns-0, read-values, return-to, cut-c-call, c-happen, c-happen-all}
+use Rattle.def_c.specs.EventsOfC.{CWorld, as-world, CRubble, CEvent, ended, cut, grown, returns, returns-0, read-values, after-return, cut-c-call, c-happen, c-happen-all}
 use Rattle.law_bytes.specs.Words.{Bytes, be32-put}
 use Rattle.law_bytes.specs.DeskBytes.{Fits, desk-bytes-length, read-desk-back}
 use Rattle.law_areas.specs.Lengths.{lengths-said}
@@ -30,7 +30,7 @@ use Rattle.law_areas.specs.Logs.{read-log-length}
 use Rattle.theory_refusals.specs.Numbers.{zero-if-passed}
 use Rattle.theory_room.specs.Restarting.{length-records-of}
 use Rattle.theory_recovery.specs.DeskNumbers.{read-fits}
-use Rattle.theory_recovery.specs.DesksFit.{call-desk-fits, desk-read-back}
+use Rattle.theory_recovery.specs.DesksFit.{call-desk-fits, desk-read-back, passed-read-back}
 
 -- ---- the answer: returned, and read from its bytes
 
@@ -57,24 +57,28 @@ first-back : (a : Answer) → answer-numbers a .first < 2 ^ 32 → answer-number
 unfolding read-values value-bytes answer-numbers
 first-back a h = be32-put (answer-numbers a .first) (put32 (answer-numbers a .second)) h
 
--- The book of a call is the one that the host keeps by what it reads.
-book-read : (c : Call) (l : Lent) (d : Desk) (b : Book) → book-call c (read-values (value-bytes (call c l d .answer))) b ≡ book-call c (call c l d .answer) b
-unfolding book-call
-book-read format l d b = refl
-book-read begin l d b = ap (λ n. open-sheet n b) (first-back (call begin l d .answer) (begin-fits l d))
-book-read restart l d b = refl
-book-read (fetch n k) l d b = refl
-book-read (next n k) l d b = refl
-book-read (insert n k v) l d b = refl
-book-read (delete n k) l d b = refl
-book-read (commit n) l d b = refl
-book-read (abort n) l d b = refl
-book-read (write-out p) l d b = refl
+-- The book of a call is the one that the host keeps by what it reads: the values, and for an update the desk.
+book-read : (c : Call) (l : Lent) (d : Desk) (b : Book) → passed (call c l d .answer) ≡ true
+    → book-call c (read-values (value-bytes (call c l d .answer))) (fed c (read-desk (desk-bytes (call c l d .desk)))) b ≡ book-call c (call c l d .answer) (fed c (call c l d .desk)) b
+unfolding book-call fed is-format is-restart
+book-read format l d b p = refl
+book-read begin l d b p = ap (λ n. open-sheet n b) (first-back (call begin l d .answer) (begin-fits l d))
+book-read restart l d b p = refl
+book-read (fetch n k) l d b p = refl
+book-read (next n k) l d b p = refl
+book-read (insert n k v) l d b p = ap (λ q. write-line n (last-in n (q .rows)) (file k v) b) (passed-read-back (insert n k v) l d refl refl p)
+book-read (delete n k) l d b p = ap (λ q. write-line n (last-in n (q .rows)) (strike k) b) (passed-read-back (delete n k) l d refl refl p)
+book-read (commit n) l d b p = refl
+book-read (abort n) l d b p = refl
+book-read (write-out q) l d b p = refl
+book-read (take-mark n) l d b p = refl
+book-read (return-to n m) l d b p = refl
 
-book-alike : (p : Bool) (c : Call) (l : Lent) (d : Desk) (b : Book) → book-after p c (read-values (value-bytes (call c l d .answer))) b ≡ book-after p c (call c l d .answer) b
+book-alike : (p : Bool) (c : Call) (l : Lent) (d : Desk) (b : Book) → passed (call c l d .answer) ≡ p
+    → book-after p c (read-values (value-bytes (call c l d .answer))) (read-desk (desk-bytes (call c l d .desk))) b ≡ book-after p c (call c l d .answer) (call c l d .desk) b
 unfolding book-after
-book-alike true c l d b = book-read c l d b
-book-alike false c l d b = refl
+book-alike true c l d b p = book-read c l d b p
+book-alike false c l d b p = refl
 
 -- ---- a desk and values of right lengths
 
@@ -99,13 +103,13 @@ module _ (c : Call) (values : List ℕ) (w : CWorld) (right : sizes-ok (w .desk)
   desk-returned = read-desk (desk-bytes (result c (as-world w) .desk))
 
   pub ended-alike : as-world (c-happen (ended c values) w) ≡ with-desk desk-returned (end-call c (as-world w))
-  unfolding c-happen return-to end-call answered areas-left desk-returned
+  unfolding c-happen after-return end-call answered areas-left desk-returned
   ended-alike =
       let r = result c (as-world w) in
       let p = zero-if-passed (r .answer) in
-      ap (λ q. as-world (return-to w c q (q .desk))) returns-answer
-      ∙ ap (λ b. record { lent = lent-after (length (r .stores)) r (w .lent); desk = read-desk (desk-bytes (r .desk)); book = book-after b c (read-values (value-bytes (r .answer))) (w .book); since-cut = w .since-cut && not b }) p
-      ∙ ap (λ b. record { lent = lent-after (length (r .stores)) r (w .lent); desk = read-desk (desk-bytes (r .desk)); book = b; since-cut = w .since-cut && not (passed (r .answer)) }) (book-alike (passed (r .answer)) c (w .lent) (read-desk (w .desk)) (w .book))
+      ap (λ q. as-world (after-return w c q (q .desk))) returns-answer
+      ∙ ap (λ b. record { lent = lent-after (length (r .stores)) r (w .lent); desk = read-desk (desk-bytes (r .desk)); book = book-after b c (read-values (value-bytes (r .answer))) (read-desk (desk-bytes (r .desk))) (w .book); since-cut = w .since-cut && not b }) p
+      ∙ ap (λ b. record { lent = lent-after (length (r .stores)) r (w .lent); desk = read-desk (desk-bytes (r .desk)); book = b; since-cut = w .since-cut && not (passed (r .answer)) }) (book-alike (passed (r .answer)) c (w .lent) (read-desk (w .desk)) (w .book) refl)
 
   pub cut-alike : (budget : ℕ) (left : CRubble) → as-world (c-happen (cut c values budget left) w) ≡ cut-call c budget (record { work-pages = left .work-pages; work-log = left .work-log; desk = read-desk (left .desk) }) (as-world w)
   unfolding c-happen cut-c-call cut-call lent-after
@@ -146,7 +150,7 @@ module _ (values : List ℕ) (room : length values ≡ values-size) where
   stands-by w d f e = record { size = ap length e ∙ desk-bytes-length d; fits = subst Fits (sym (ap read-desk e ∙ read-desk-back d f)) f }
 
   pub event-alike : (e : Event) → HoldsDesk e → (w : CWorld) → DeskStands w → (as-world (c-happen (in-bytes values e) w) ≡ happen e (as-world w)) × DeskStands (c-happen (in-bytes values e) w)
-  unfolding in-bytes HoldsDesk happen c-happen return-to cut-c-call end-call grow desk-returned answered
+  unfolding in-bytes HoldsDesk happen c-happen after-return cut-c-call end-call grow desk-returned answered
   event-alike (typed.ended c) h w s =
       let k = right-sizes w s in
       let r = result c (as-world w) in

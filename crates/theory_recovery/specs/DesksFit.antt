@@ -1,32 +1,39 @@
 -- EVERY DESK THAT A CALL LEAVES FITS ITS BYTES, of whatever areas, if the desk that it is given does.
 use Prim.Native.Nat.{ℕ, _<_, _^_}
 use mathlib.Core.Path.{_≡_, sym, subst}
+use mathlib.Core.Bool.{true, false}
 use mathlib.Core.Option.{Option, none, some}
 use mathlib.Core.List.{List}
 use native.Mathlib.Omega.{arith}
 use lib.ListN.{length}
-use Rattle.def_base.specs.Tests.{Case, yes!, no!, case}
+use lib.Dec.{leb}
+use Rattle.def_base.specs.Tests.{Case, yes!, no!, case, clash, and-true, true-le}
 use Rattle.def_layout.specs.declared.Desk.{Desk}
 use Rattle.def_layout.specs.Desks.{desk-bytes, read-desk}
 use Rattle.def_layout.specs.Records.{insert, delete}
 use Rattle.def_model.specs.declared.Refusal.{Refusal}
 use Rattle.def_model.specs.declared.Answer.{Answer}
-use Rattle.def_model.specs.Batches.{Batch, find-batch, open-batches}
+use Rattle.def_model.specs.Batches.{Batch, find-batch, open-batches, desk-of}
 use Rattle.def_model.specs.Update.{Run}
 use Rattle.def_model.specs.Areas.{Areas, Store}
-use Rattle.def_model.specs.Answers.{first-broken}
-use Rattle.def_model.specs.Sound.{work-slots}
+use Rattle.def_model.specs.Log.{records-of}
+use Rattle.def_model.specs.Answers.{first-broken, passed}
+use Rattle.def_model.specs.Sound.{work-slots, desk-ok, stored-ok, sound}
 use Rattle.def_model.specs.Calls
-use Rattle.def_model.specs.Calls.{run-of, kept-run, stored-run, aborted, abort-of}
+use Rattle.def_model.specs.Calls.{run-of, kept-run, stored-run, aborted, abort-of, returned, return-of}
 use Rattle.def_model.specs.Restart.{restart-by, restart-areas, restart-checks, restarted}
 use Rattle.def_model.specs.OnBytes
-use Rattle.def_model.specs.OnBytes.{Call, format, restart, fetch, next, abort, write-out, Lent, refused-desk, read-areas, lengths-ok, outcome, call-by, call}
+use Rattle.def_model.specs.OnBytes.{Call, format, restart, fetch, next, abort, write-out, Lent, refused-desk, read-areas, lengths-ok, outcome, call-by, call, take-mark, return-to}
+use Rattle.def_recovery.specs.Events.{is-format, is-restart}
 use Rattle.law_bytes.specs.DeskBytes.{Fits, read-desk-back}
+use Rattle.law_bytes.specs.DeskSame.{desk-same}
 use Rattle.law_areas.specs.Lengths.{lengths-said}
 use Rattle.law_areas.specs.Logs.{read-log-length}
 use Rattle.theory_room.specs.Reasons.{Within, emit-within}
 use Rattle.theory_room.specs.Restarting.{length-records-of, restarted-within}
-use Rattle.theory_calls.specs.Within.{put-within, remove-within, abort-within}
+use Rattle.theory_calls.specs.Checks.{sound-parts}
+use Rattle.theory_calls.specs.Refused.{asks-sound}
+use Rattle.theory_calls.specs.Within.{put-within, remove-within, return-within, abort-within}
 use Rattle.theory_recovery.specs.DeskNumbers.{desk-of-fits, empty-fits}
 
 module _ (a : Areas) (d : Desk) (few : length (a .work .log) < 2 ^ 32) (fewer : length (a .stable .log) < 2 ^ 32) (fit : Fits d) where
@@ -82,6 +89,21 @@ module _ (a : Areas) (d : Desk) (few : length (a .work .log) < 2 ^ 32) (fewer : 
   abort-fits (some r) b = fit
   abort-fits none b = kept-fits _ (abort-of b a) (aborted-within (find-batch b (open-batches _)))
 
+  mark-fits : (o : Option Refusal) (b : ℕ) → Fits (Calls.latest-by o b a d .desk)
+  unfolding Calls.latest-by
+  mark-fits (some r) b = fit
+  mark-fits none b = fit
+
+  returned-within : (mark : ℕ) (o : Option Batch) → Within (work-slots a) (returned mark o (run-of a))
+  unfolding returned
+  returned-within mark none = run-within
+  returned-within mark (some b) = return-within (work-slots a) mark b (run-of a) run-within
+
+  return-fits : (o : Option Refusal) (b mark : ℕ) → Fits (Calls.return-by o b mark a d .desk)
+  unfolding Calls.return-by
+  return-fits (some r) b mark = fit
+  return-fits none b mark = kept-fits _ (return-of b mark a) (returned-within mark (find-batch b (open-batches _)))
+
   write-out-fits : (o : Option Refusal) (p : ℕ) → Fits (Calls.write-out-by o p a d .desk)
   unfolding Calls.write-out-by
   write-out-fits (some r) p = fit
@@ -93,7 +115,7 @@ module _ (a : Areas) (d : Desk) (few : length (a .work .log) < 2 ^ 32) (fewer : 
   restart-fits none = let w = restarted-within a in desk-of-fits (restarted a .log) (length (restarted a .log)) (omega arith) (omega arith)
 
   outcome-fits : (c : Call) → Fits (outcome c a d .desk)
-  unfolding outcome Calls.format-areas Calls.begin-batch Calls.fetch-slide Calls.next-slide Calls.insert-slide Calls.delete-slide Calls.commit-batch Calls.abort-batch Calls.write-out-page restart-areas
+  unfolding outcome Calls.format-areas Calls.begin-batch Calls.fetch-slide Calls.next-slide Calls.insert-slide Calls.delete-slide Calls.commit-batch Calls.abort-batch Calls.mark-batch Calls.return-batch Calls.write-out-page restart-areas
   outcome-fits format = empty-fits
   outcome-fits OnBytes.begin = begin-fits (first-broken (Calls.begin-checks a d))
   outcome-fits restart = restart-fits (first-broken (restart-checks a))
@@ -104,6 +126,8 @@ module _ (a : Areas) (d : Desk) (few : length (a .work .log) < 2 ^ 32) (fewer : 
   outcome-fits (OnBytes.commit b) = commit-fits (first-broken (Calls.commit-checks b a d)) b
   outcome-fits (abort b) = abort-fits (first-broken (Calls.abort-checks b a d)) b
   outcome-fits (write-out p) = write-out-fits (first-broken (Calls.write-out-checks p a d)) p
+  outcome-fits (take-mark b) = mark-fits (first-broken (Calls.mark-checks b a d)) b
+  outcome-fits (return-to b m) = return-fits (first-broken (Calls.return-checks b m a d)) b m
 
 refused-fits : (c : Call) (d : Desk) → Fits d → Fits (refused-desk c d)
 unfolding refused-desk
@@ -117,6 +141,8 @@ refused-fits (OnBytes.delete b k) d h = h
 refused-fits (OnBytes.commit b) d h = h
 refused-fits (abort b) d h = h
 refused-fits (write-out p) d h = h
+refused-fits (take-mark b) d h = h
+refused-fits (return-to b m) d h = h
 
 pub call-desk-fits : (c : Call) (l : Lent) (d : Desk) → Fits d → Fits (call c l d .desk)
 unfolding call call-by read-areas
@@ -134,3 +160,25 @@ call-desk-fits c l d h = go (case (lengths-ok l))
 -- READ BACK: written into its bytes and read again, the desk is the same.
 pub desk-read-back : (c : Call) (l : Lent) (d : Desk) → Fits d → read-desk (desk-bytes (call c l d .desk)) ≡ call c l d .desk
 desk-read-back c l d h = read-desk-back (call c l d .desk) (call-desk-fits c l d h)
+
+-- A sound desk fits, whatever it was read from.
+sound-fits : (a : Areas) (d : Desk) → length (a .work .log) < 2 ^ 32 → sound a d ≡ true → Fits d
+unfolding desk-ok stored-ok
+sound-fits a d few s =
+    let p = sound-parts a d s in
+    let w = length-records-of (a .work .log) in
+    let k = true-le (d .stored) (length (records-of (a .work .log))) (and-true (leb (d .stored) (length (records-of (a .work .log)))) _ (p .stored) .0) in
+    subst Fits (sym (desk-same d (desk-of (records-of (a .work .log)) (d .stored)) (p .desk))) (desk-of-fits (records-of (a .work .log)) (d .stored) (omega arith) (omega arith))
+
+-- So what a call leaves that passed is read back, whatever its desk was read from.
+pub passed-read-back : (c : Call) (l : Lent) (d : Desk) → is-format c ≡ false → is-restart c ≡ false → passed (call c l d .answer) ≡ true → read-desk (desk-bytes (call c l d .desk)) ≡ call c l d .desk
+unfolding call call-by read-areas passed
+passed-read-back c l d f r p = go (case (lengths-ok l))
+  where
+    go : Case (lengths-ok l) → read-desk (desk-bytes (call c l d .desk)) ≡ call c l d .desk
+    go (no! e) = clash (sym (subst (λ b. passed (call-by b c l d .answer) ≡ true) e p))
+    go (yes! e) =
+        let z = lengths-said l e in
+        let few = z .most-slots in
+        let work = read-log-length _ (l .work-log) (z .work-log) in
+        desk-read-back c l d (sound-fits (read-areas l) d (omega arith) (asks-sound c (read-areas l) d f r (subst (λ b. passed (call-by b c l d .answer) ≡ true) e p)))

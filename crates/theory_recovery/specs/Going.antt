@@ -14,8 +14,7 @@ use Rattle.def_layout.specs.Records.{Rec}
 use Rattle.def_model.specs.Areas.{Areas}
 use Rattle.def_model.specs.Log.{log-area}
 use Rattle.def_model.specs.Answers.{Outcome, passed}
-use Rattle.def_model.specs.OnBytes.{Call, format, begin, restart, fetch, next, insert, delete, commit, abort, write-out, outcome, read-areas, lengths-ok}
-use Rattle.def_recovery.specs.Book.{book-call}
+use Rattle.def_model.specs.OnBytes.{Call, format, begin, restart, fetch, next, insert, delete, commit, abort, write-out, outcome, read-areas, lengths-ok, take-mark, return-to}
 use Rattle.def_recovery.specs.Events.{World, is-format, is-restart, fits-32, of-32-bits}
 use Rattle.theory_history.specs.Origin.{Origin}
 use Rattle.theory_history.specs.History.{History}
@@ -24,9 +23,9 @@ use Rattle.theory_ranges.specs.Histories.{RangedHistory}
 use Rattle.law_areas.specs.Lengths.{Lengths, lengths-said}
 use Rattle.theory_calls.specs.Stories.{story}
 use Rattle.theory_calls.specs.LiveAreas.{Holds}
-use Rattle.theory_calls.specs.Passing.{Fixed, Passes}
-use Rattle.theory_calls.specs.Questions.{fetch-passes, next-passes, write-out-passes}
-use Rattle.theory_calls.specs.Batching.{begin-passes, commit-passes, abort-passes}
+use Rattle.theory_calls.specs.Passing.{book-of, Fixed, Passes}
+use Rattle.theory_calls.specs.Questions.{fetch-passes, next-passes, write-out-passes, mark-passes}
+use Rattle.theory_calls.specs.Batching.{begin-passes, commit-passes, abort-passes, return-passes}
 use Rattle.theory_calls.specs.Changing.{insert-passes, delete-passes}
 use Rattle.theory_calls.specs.Restarting.{passed-stop, restart-book}
 use Rattle.theory_calls.specs.Ends.{Ends, passes-ends, restart-ends}
@@ -49,7 +48,7 @@ pub record Going (o : Origin) (w : World) (stable : List Rec) (c : Call) : Type 
   pub fixed : Fixed o stable rest
   pub ranged : RangedHistory o n log
   pub ends : Ends o n m stable log c (does c w)
-  pub tells : book-call c (does c w .answer) (w .book) ≡ story o (ends .run .log)
+  pub tells : book-of c (does c w) (w .book) ≡ story o (ends .run .log)
 
 -- ---- the calls that ask for sound areas
 
@@ -68,6 +67,24 @@ module _ (o : Origin) (n m : ℕ) (most : n ≤ map-bits) (stable log : List Rec
   all-pass (commit b) f r k p = commit-passes o n m most stable log a d h x b t p
   all-pass (abort b) f r k p = abort-passes o n m most stable log a d h x b p
   all-pass (write-out q) f r k p = write-out-passes o n m stable log a d h x q t p
+  all-pass (take-mark b) f r k p = mark-passes o n m stable log a d h x b p
+  all-pass (return-to b q) f r k p = return-passes o n m most stable log a d h x b q p
+
+-- The only restart.
+pub only-restart : (c : Call) → is-restart c ≡ true → c ≡ restart
+unfolding is-restart
+only-restart restart e = refl
+only-restart format e = clash (sym e)
+only-restart begin e = clash (sym e)
+only-restart (fetch a b) e = clash (sym e)
+only-restart (next a b) e = clash (sym e)
+only-restart (insert a b d) e = clash (sym e)
+only-restart (delete a b) e = clash (sym e)
+only-restart (commit a) e = clash (sym e)
+only-restart (abort a) e = clash (sym e)
+only-restart (write-out a) e = clash (sym e)
+only-restart (take-mark a) e = clash (sym e)
+only-restart (return-to a b) e = clash (sym e)
 
 -- ---- where the invariant holds
 
@@ -125,7 +142,7 @@ module _ (w : World) (i : Inv w) (lens : lengths-ok (w .lent) ≡ true) where
         fixed = v .fixed;
         ranged = v .ranged;
         ends = e;
-        tells = ap (book-call c (does c w .answer)) b ∙ q .book ∙ ap (λ t. story (i .origin) (t .log)) (sym run);
+        tells = ap (book-of c (does c w)) b ∙ q .book ∙ ap (λ t. story (i .origin) (t .log)) (sym run);
       }
   others c f r k g p (dead j q a b) =
       let l = z .least-pages in
@@ -136,18 +153,6 @@ module _ (w : World) (i : Inv w) (lens : lengths-ok (w .lent) ≡ true) where
   unfolding is-restart
   going c k f g p = go (case (is-restart c))
     where
-      is-it : (c : Call) → is-restart c ≡ true → c ≡ restart
-      is-it restart e = refl
-      is-it format e = clash (sym e)
-      is-it begin e = clash (sym e)
-      is-it (fetch a b) e = clash (sym e)
-      is-it (next a b) e = clash (sym e)
-      is-it (insert a b d) e = clash (sym e)
-      is-it (delete a b) e = clash (sym e)
-      is-it (commit a) e = clash (sym e)
-      is-it (abort a) e = clash (sym e)
-      is-it (write-out a) e = clash (sym e)
-
       go : Case (is-restart c) → Going (i .origin) w (i .log) c
-      go (yes! e) = let q = is-it c e in subst (Going (i .origin) w (i .log)) (sym q) (restarts (subst (λ x. passed (does x w .answer) ≡ true) q p))
+      go (yes! e) = let q = only-restart c e in subst (Going (i .origin) w (i .log)) (sym q) (restarts (subst (λ x. passed (does x w .answer) ≡ true) q p))
       go (no! e) = others c f e k g p (i .mode)

@@ -13,10 +13,9 @@ use Rattle.def_layout.specs.PageBytes.{page}
 use Rattle.def_layout.specs.Records.{Rec}
 use Rattle.def_model.specs.Update.{Run}
 use Rattle.def_model.specs.Areas.{log-stores}
-use Rattle.def_model.specs.declared.Answer.{Answer}
 use Rattle.def_model.specs.Answers.{Outcome}
 use Rattle.def_model.specs.Calls.{run-side}
-use Rattle.def_model.specs.OnBytes.{Call, format, begin, restart, fetch, next, insert, delete, commit, abort, write-out, Lent, store-all-bytes, pages-bytes, log-bytes}
+use Rattle.def_model.specs.OnBytes.{Call, format, begin, restart, fetch, next, insert, delete, commit, abort, write-out, Lent, store-all-bytes, pages-bytes, log-bytes, take-mark, return-to}
 use Rattle.def_recovery.specs.Book.{Book, book-call, book-cut}
 use Rattle.def_recovery.specs.Events.{World, Rubble}
 use Rattle.def_recovery.specs.Demand3.{is-commit-of}
@@ -27,7 +26,7 @@ use Rattle.law_areas.specs.Lengths.{Lengths}
 use Rattle.law_areas.specs.Pages.{HoldsPages, pages-hold}
 use Rattle.law_areas.specs.Logs.{HoldsLog, area-holds}
 use Rattle.theory_calls.specs.Stories.{story}
-use Rattle.theory_calls.specs.Passing.{is-commit, Fixed, Follows, quietly, by-commit}
+use Rattle.theory_calls.specs.Passing.{book-of, is-commit, Fixed, Follows, quietly, by-commit}
 use Rattle.theory_calls.specs.Ends.{Ends}
 use Rattle.theory_recovery.specs.Invariant.{Sure, Live, Mode, live, lost, Inv}
 use Rattle.theory_recovery.specs.Fixing.{fixed-none, fixed-all, fixed-append, fixed-tail, any-last}
@@ -67,17 +66,19 @@ calm-cut (delete n k) b book e = refl
 calm-cut (commit n) b book e = clash e
 calm-cut (abort n) b book e = refl
 calm-cut (write-out p) b book e = refl
+calm-cut (take-mark n) b book e = refl
+calm-cut (return-to n m) b book e = refl
 
 -- A commit does what it would have done, if its record was stored, and else nothing.
-all-cut : (c : Call) (b : ℕ) (answer : Answer) (book : Book) → c ≡ commit b → book-cut c true book ≡ book-call c answer book
+all-cut : (c : Call) (b : ℕ) (o : Outcome) (book : Book) → c ≡ commit b → book-cut c true book ≡ book-of c o book
 unfolding book-cut book-call
-all-cut c b answer book e = subst (λ q. book-cut q true book ≡ book-call q answer book) (sym e) refl
+all-cut c b o book e = subst (λ q. book-cut q true book ≡ book-of q o book) (sym e) refl
 
 none-cut : (c : Call) (b : ℕ) (book : Book) → c ≡ commit b → book-cut c false book ≡ book
 unfolding book-cut
 none-cut c b book e = subst (λ q. book-cut q false book ≡ book) (sym e) refl
 
-module _ (origin : Origin) (n m : ℕ) (l : Lent) (z : Lengths l n m) (stable : List Rec) (s : Sure origin n l stable) (log rest : List Rec) (is : log ≡ stable ++ rest) (fixed : Fixed origin stable rest) (ranged : RangedHistory origin n log) (c : Call) (o : Outcome) (e : Ends origin n m stable log c o) (book : Book) (slides : book .slides ≡ slides-after origin stable) (tells : book-call c (o .answer) book ≡ story origin (e .run .log)) where
+module _ (origin : Origin) (n m : ℕ) (l : Lent) (z : Lengths l n m) (stable : List Rec) (s : Sure origin n l stable) (log rest : List Rec) (is : log ≡ stable ++ rest) (fixed : Fixed origin stable rest) (ranged : RangedHistory origin n log) (c : Call) (o : Outcome) (e : Ends origin n m stable log c o) (book : Book) (slides : book .slides ≡ slides-after origin stable) (tells : book-of c o book ≡ story origin (e .run .log)) where
   t : Run
   t = e .run
 
@@ -167,7 +168,7 @@ module _ (origin : Origin) (n m : ℕ) (l : Lent) (z : Lengths l n m) (stable : 
     pub told : (b : ℕ) → c ≡ commit b → any (is-commit-of b) (next .inv .log) ≡ true
 
   abbrev pub ends-in : Desk → Bool → World
-  ends-in d cut = after (length (o .stores)) (pages-bytes (o .work .pages)) (log-bytes (o .work .log)) d (book-call c (o .answer) book) cut
+  ends-in d cut = after (length (o .stores)) (pages-bytes (o .work .pages)) (log-bytes (o .work .log)) d (book-of c o book) cut
 
   pub ended-next : (d : Desk) (cut : Bool) → Told (ends-in d cut)
   unfolding is-commit
@@ -181,16 +182,16 @@ module _ (origin : Origin) (n m : ℕ) (l : Lent) (z : Lengths l n m) (stable : 
           let r : e .run .log ≡ stable ++ (rest ++ more) = q ∙ ap (_++ more) is ∙ append-assoc stable rest more in
           let g : Fixed origin stable (rest ++ more) = fixed-append origin stable rest more fixed (subst (λ y. Fixed origin y more) is f) in
           record {
-            next = quiet (length (o .stores)) (pages-bytes (o .work .pages)) (log-bytes (o .work .log)) d (book-call c (o .answer) book) cut more q f
+            next = quiet (length (o .stores)) (pages-bytes (o .work .pages)) (log-bytes (o .work .log)) d (book-of c o book) cut more q f
                 (λ sl part tail w. live (e .run .log) (lives (ends-in d cut .lent) refl refl part tail (r ∙ ap (stable ++_) w ∙ sym (append-assoc stable part tail)) (fixed-tail origin stable (rest ++ more) part tail w g)) tells)
-                (told-slides (book-call c (o .answer) book) tells ∙ ap (slides-after origin) r ∙ fixed-all origin stable (rest ++ more) g);
+                (told-slides (book-of c o book) tells ∙ ap (slides-after origin) r ∙ fixed-all origin stable (rest ++ more) g);
             told = λ b x. clash (sym (ap is-commit x) ∙ k);
           }
       go (by-commit b r x ok q w) =
           let h : length (rest ++ r ∷ []) ≤ length (o .stores) = let y = count r q w in omega arith in
           let u = whole-log (length (o .stores)) r q h in
           let v : stable ++ take (length (o .stores)) (rest ++ r ∷ []) ≡ (stable ++ rest) ++ r ∷ [] = sym u ∙ q ∙ ap (_++ r ∷ []) is in
-          let (y, p) = committed (length (o .stores)) (pages-bytes (o .work .pages)) (log-bytes (o .work .log)) d (book-call c (o .answer) book) cut r q w (told-slides (book-call c (o .answer) book) tells ∙ ap (slides-after origin) u)
+          let (y, p) = committed (length (o .stores)) (pages-bytes (o .work .pages)) (log-bytes (o .work .log)) d (book-of c o book) cut r q w (told-slides (book-of c o book) tells ∙ ap (slides-after origin) u)
           (live (e .run .log) (lives (ends-in d cut .lent) refl refl (take (length (o .stores)) (rest ++ r ∷ [])) [] (u ∙ sym (append-nil _)) (fixed-none origin (stable ++ take (length (o .stores)) (rest ++ r ∷ [])))) tells) in
           record { next = y; told = λ k f. subst (λ a. any (is-commit-of k) a ≡ true) (sym (p ∙ v)) (any-last (is-commit-of k) (stable ++ rest) r (subst (λ a. is-commit-of a r ≡ true) (same b k (sym x ∙ f)) ok)) }
         where
@@ -215,7 +216,7 @@ module _ (origin : Origin) (n m : ℕ) (l : Lent) (z : Lengths l n m) (stable : 
           by (yes! y) =
               let h : length (rest ++ r ∷ []) ≤ j = let a = count r q w in let g = true-le (length (o .stores)) j y in omega arith in
               committed j (left .work-pages) (left .work-log) (left .desk) (book-cut c (leb (length (o .stores)) j) book) true r q w
-              (ap (λ a. book-cut c a book .slides) y ∙ ap (λ a. a .slides) (all-cut c b (o .answer) book x) ∙ told-slides (book-call c (o .answer) book) tells ∙ ap (slides-after origin) (whole-log j r q h)) (lost refl) .0
+              (ap (λ a. book-cut c a book .slides) y ∙ ap (λ a. a .slides) (all-cut c b o book x) ∙ told-slides (book-of c o book) tells ∙ ap (slides-after origin) (whole-log j r q h)) (lost refl) .0
           by (no! y) =
               let a = count r q w in
               let g = false-le (length (o .stores)) j y in

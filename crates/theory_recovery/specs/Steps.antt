@@ -12,7 +12,7 @@ use Rattle.def_layout.specs.Numbers.{zeros}
 use Rattle.def_model.specs.declared.Refusal.{Refusal}
 use Rattle.def_model.specs.Areas.{Store}
 use Rattle.def_model.specs.Answers.{passed}
-use Rattle.def_model.specs.OnBytes.{Call, format, begin, restart, fetch, next, insert, delete, commit, abort, write-out, outcome, Lent, Result, call, call-by, read-areas, lengths-ok, lent-after, store-all-bytes}
+use Rattle.def_model.specs.OnBytes.{Call, format, begin, restart, fetch, next, insert, delete, commit, abort, write-out, outcome, Lent, Result, call, call-by, read-areas, lengths-ok, lent-after, store-all-bytes, take-mark, return-to}
 use Rattle.def_recovery.specs.Book.{Book, book-cut}
 use Rattle.def_recovery.specs.Events.{World, Rubble, Granted, is-format, result, passes, book-after, end-call, cut-call, all-stored, grow}
 use Rattle.def_recovery.specs.Demand3.{is-commit-of}
@@ -82,10 +82,12 @@ no-cut (delete n k) b = refl
 no-cut (commit n) b = refl
 no-cut (abort n) b = refl
 no-cut (write-out p) b = refl
+no-cut (take-mark n) b = refl
+no-cut (return-to n m) b = refl
 
 -- The world after a result, ended or cut.
 abbrev pub ended-by : Call → Result → World → World
-ended-by c r w = record { lent = lent-after (length (r .stores)) r (w .lent); desk = r .desk; book = book-after (passed (r .answer)) c (r .answer) (w .book); since-cut = w .since-cut && not (passed (r .answer)) }
+ended-by c r w = record { lent = lent-after (length (r .stores)) r (w .lent); desk = r .desk; book = book-after (passed (r .answer)) c (r .answer) (r .desk) (w .book); since-cut = w .since-cut && not (passed (r .answer)) }
 
 abbrev pub cut-by : Call → ℕ → Rubble → Result → World → World
 cut-by c j left r w =
@@ -104,9 +106,9 @@ still true = refl
 still false = refl
 
 module _ (w : World) (i : Inv w) (c : Call) (r : Result) (u : Unpassed (w .lent) r) where
-  book-same : book-after (passed (r .answer)) c (r .answer) (w .book) ≡ w .book
+  book-same : book-after (passed (r .answer)) c (r .answer) (r .desk) (w .book) ≡ w .book
   unfolding book-after
-  book-same = ap (λ q. book-after q c (r .answer) (w .book)) (u .answer)
+  book-same = ap (λ q. book-after q c (r .answer) (r .desk) (w .book)) (u .answer)
 
   cut-same : w .since-cut && not (passed (r .answer)) ≡ w .since-cut
   cut-same = ap (λ q. w .since-cut && not q) (u .answer) ∙ still (w .since-cut)
@@ -127,7 +129,7 @@ module _ (w : World) (i : Inv w) (c : Call) (r : Result) (u : Unpassed (w .lent)
       after-lent = lent-after (length (r .stores)) r (w .lent)
 
       go : ((r .work-pages ≡ w .lent .work-pages) × (r .work-log ≡ w .lent .work-log)) ⊎ ((j : ℕ) × (k : ℕ) × (r .work-pages ≡ zeros j) × (r .work-log ≡ zeros k)) → Mode (i .origin) (i .n) (w .lent) (i .log) (w .book) (w .since-cut)
-          → Mode (i .origin) (i .n) (lent-after (length (r .stores)) r (w .lent)) (i .log) (book-after (passed (r .answer)) c (r .answer) (w .book)) (w .since-cut && not (passed (r .answer)))
+          → Mode (i .origin) (i .n) (lent-after (length (r .stores)) r (w .lent)) (i .log) (book-after (passed (r .answer)) c (r .answer) (r .desk) (w .book)) (w .since-cut && not (passed (r .answer)))
       go (inr (j, k, e, f)) m = dead j k e f
       go (inl (e, f)) (dead j k g h) = dead j k (e ∙ g) (f ∙ h)
       go (inl (e, f)) (lost g) = lost (cut-same ∙ g)
@@ -177,6 +179,8 @@ not-format c w g e = go (case (is-format c))
     format-is (commit a) e = clash (sym e)
     format-is (abort a) e = clash (sym e)
     format-is (write-out a) e = clash (sym e)
+    format-is (take-mark a) e = clash (sym e)
+    format-is (return-to a b) e = clash (sym e)
 
     go : Case (is-format c) → is-format c ≡ false
     go (no! f) = f
@@ -209,7 +213,7 @@ module _ (w : World) (i : Inv w) (c : Call) (g : Granted c w) where
   by-passing e p x =
       let t = ended-next (i .origin) (x .n) (x .m) (w .lent) (x .lengths) (i .log) (x .sure) (x .log) (x .rest) (x .longer) (x .fixed) (x .ranged) c (does c w) (x .ends) (w .book) (i .slides) (x .tells) (does c w .desk) (w .since-cut && not (passed (does c w .answer))) in
       subst (λ q. Reports w i c (ended-by c q w)) (sym (result-by c w true e))
-      (subst (λ q. Reports w i c (record { lent = lent-after (length (does c w .stores)) (call-by true c (w .lent) (w .desk)) (w .lent); desk = does c w .desk; book = book-after q c (does c w .answer) (w .book); since-cut = w .since-cut && not (passed (does c w .answer)) })) (sym p)
+      (subst (λ q. Reports w i c (record { lent = lent-after (length (does c w .stores)) (call-by true c (w .lent) (w .desk)) (w .lent); desk = does c w .desk; book = book-after q c (does c w .answer) (does c w .desk) (w .book); since-cut = w .since-cut && not (passed (does c w .answer)) })) (sym p)
       (record { next = t .next; told = λ b f q. t .told b f }))
 
   cut-by-passing : (j : ℕ) (left : Rubble) → lengths-ok (w .lent) ≡ true → passed (does c w .answer) ≡ true → Going (i .origin) w (i .log) c → Next (i .log) (cut-call c j left w)

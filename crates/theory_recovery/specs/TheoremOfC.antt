@@ -18,7 +18,7 @@ use Rattle.def_recovery.specs.Book.{new-book, book-cut}
 use Rattle.def_recovery.specs.Events.{World, Granted, AllAllowed, cut-call, grow, formatted, book-after, is-format, is-restart, of-32-bits}
 use Rattle.def_recovery.specs.Demand3.{is-commit-of, stored}
 use Rattle.def_c.specs.FromC.{values-size, areas-left, answered, sizes-ok, refused-desk-bytes, returned-by, c-call, c-stores-by, c-stores}
-use Rattle.def_c.specs.EventsOfC.{CWorld, as-world, CRubble, CEvent, ended, mislent, cut, grown, returns-0, return-to, cut-c-call, c-happen, c-happen-all, CGranted, CAllowed, CAllAllowed, c-formatted}
+use Rattle.def_c.specs.EventsOfC.{CWorld, as-world, CRubble, CEvent, ended, mislent, cut, grown, returns-0, after-return, cut-c-call, c-happen, c-happen-all, CGranted, CAllowed, CAllAllowed, c-formatted}
 use Rattle.def_c.specs.Demand3OfC.{RestartsAlike, CDemand3}
 use Rattle.theory_recovery.specs.Invariant.{Inv}
 use Rattle.theory_recovery.specs.Passed.{Next}
@@ -40,9 +40,9 @@ next-desk log d x = record { inv = inv-desk d (x .inv); more = x .more; longer =
 
 module _ (c : Call) (values : List ℕ) (w : CWorld) (wrong : sizes-ok (w .desk) values ≡ false) where
   refused-alike : as-world (c-happen (ended c values) w) ≡ with-desk (read-desk (refused-desk-bytes c (w .desk))) (as-world w)
-  unfolding c-happen return-to c-call returned-by book-after
+  unfolding c-happen after-return c-call returned-by book-after
   refused-alike =
-      ap (λ b. as-world (return-to w c (returned-by b c (w .lent) (w .desk) values) (returned-by b c (w .lent) (w .desk) values .desk))) wrong
+      ap (λ b. as-world (after-return w c (returned-by b c (w .lent) (w .desk) values) (returned-by b c (w .lent) (w .desk) values .desk))) wrong
       ∙ ap (λ b. record { lent = w .lent; desk = read-desk (refused-desk-bytes c (w .desk)); book = w .book; since-cut = b }) (still (w .since-cut))
 
   not-0 : returns-0 c values w ≡ false
@@ -58,9 +58,9 @@ module _ (c : Call) (values : List ℕ) (w : CWorld) (wrong : sizes-ok (w .desk)
       λ i. record { lent = record { work-pages = left .work-pages; stable-pages = none i .stable-pages; work-log = left .work-log; stable-log = none i .stable-log }; desk = read-desk (left .desk); book = book i; since-cut = true }
 
 mislent-alike : (c : Call) (desk values : List ℕ) (w : CWorld) → eqb (length desk) desk-size ≡ false → as-world (c-happen (mislent c desk values) w) ≡ as-world w
-unfolding c-happen return-to c-call returned-by sizes-ok book-after
+unfolding c-happen after-return c-call returned-by sizes-ok book-after
 mislent-alike c desk values w e =
-    ap (λ b. as-world (return-to w c (returned-by (b && eqb (length values) values-size) c (w .lent) desk values) (w .desk))) e
+    ap (λ b. as-world (after-return w c (returned-by (b && eqb (length values) values-size) c (w .lent) desk values) (w .desk))) e
     ∙ ap (λ b. record { lent = w .lent; desk = read-desk (w .desk); book = w .book; since-cut = b }) (still (w .since-cut))
 
 -- ---- one event keeps the invariant

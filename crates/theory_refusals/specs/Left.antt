@@ -12,9 +12,9 @@ use Rattle.def_model.specs.declared.Refusal.{Refusal}
 use Rattle.def_model.specs.declared.Answer.the-variants.{Refused}
 use Rattle.def_model.specs.Areas.{Areas, zero-side}
 use Rattle.def_model.specs.Answers.{Outcome, Check, first-broken, refusal-number}
-use Rattle.def_model.specs.Calls.{begin-by, begin-batch, fetch-by, fetch-slide, next-slide-by, next-slide, insert-by, insert-slide, delete-by, delete-slide, commit-by, commit-batch, abort-by, abort-batch, write-out-by, write-out-page}
+use Rattle.def_model.specs.Calls.{begin-by, begin-batch, fetch-by, fetch-slide, next-slide-by, next-slide, insert-by, insert-slide, delete-by, delete-slide, commit-by, commit-batch, abort-by, abort-batch, write-out-by, write-out-page, latest-by, mark-batch, return-by, return-batch}
 use Rattle.def_model.specs.Restart.{restart-checks, restart-by, restart-areas}
-use Rattle.def_model.specs.OnBytes.{Call, format, begin, restart, fetch, next, insert, delete, commit, abort, write-out, outcome}
+use Rattle.def_model.specs.OnBytes.{Call, format, begin, restart, fetch, next, insert, delete, commit, abort, write-out, outcome, take-mark, return-to}
 use Rattle.def_recovery.specs.Events.{is-format, is-restart}
 use Rattle.theory_refusals.specs.Order.{checks}
 
@@ -50,7 +50,7 @@ restart-zeroes a r e = of-broken (zeroes restart) (restart-checks a) r refl e
 
 -- WHAT A REFUSED CALL LEAVES, a clause a call.
 pub refused : (c : Call) (a : Areas) (d : Desk) (r : Refusal) → first-broken (checks c a d) ≡ some r → outcome c a d ≡ left c r a d
-unfolding left-by zeroes empties is-format is-restart checks first-broken outcome begin-batch begin-by fetch-slide fetch-by next-slide next-slide-by insert-slide insert-by delete-slide delete-by commit-batch commit-by abort-batch abort-by write-out-page write-out-by restart-areas restart-by
+unfolding left-by zeroes empties is-format is-restart checks first-broken outcome begin-batch begin-by fetch-slide fetch-by next-slide next-slide-by insert-slide insert-by delete-slide delete-by commit-batch commit-by abort-batch abort-by mark-batch latest-by return-batch return-by write-out-page write-out-by restart-areas restart-by
 refused format a d r e = none-some e
 refused begin a d r e = ap (λ o. begin-by o a d) e
 refused restart a d r e = ap (λ o. restart-by o a) e ∙ ap (λ z. left-by z true r a d) (sym (restart-zeroes a r e))
@@ -61,3 +61,5 @@ refused (delete b k) a d r e = ap (λ o. delete-by o b k a d) e
 refused (commit b) a d r e = ap (λ o. commit-by o b a d) e
 refused (abort b) a d r e = ap (λ o. abort-by o b a d) e
 refused (write-out p) a d r e = ap (λ o. write-out-by o p a d) e
+refused (take-mark b) a d r e = ap (λ o. latest-by o b a d) e
+refused (return-to b m) a d r e = ap (λ o. return-by o b m a d) e

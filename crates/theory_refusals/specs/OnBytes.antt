@@ -14,7 +14,7 @@ use Rattle.def_model.specs.declared.Refusal.{Refusal}
 use Rattle.def_model.specs.declared.Refusal.the-variants.{Lengths}
 use Rattle.def_model.specs.declared.Answer.the-variants.{Refused}
 use Rattle.def_model.specs.Answers.{Outcome, refusal-number}
-use Rattle.def_model.specs.OnBytes.{Call, format, begin, restart, fetch, next, insert, delete, commit, abort, write-out, Lent, Result, call, call-by, refused-desk, lengths-ok, read-areas, read-pages, read-log, pages-bytes, log-bytes, outcome}
+use Rattle.def_model.specs.OnBytes.{Call, format, begin, restart, fetch, next, insert, delete, commit, abort, write-out, Lent, Result, call, call-by, refused-desk, lengths-ok, read-areas, read-pages, read-log, pages-bytes, log-bytes, outcome, take-mark, return-to}
 use Rattle.def_recovery.specs.Events.{is-format, is-restart}
 use Rattle.law_areas.specs.Lengths.{lengths-said}
 use Rattle.law_areas.specs.Pages.{read-pages-length, zero-pages-bytes}
@@ -51,6 +51,8 @@ of-lengths (delete b k) l d = refl
 of-lengths (commit b) l d = refl
 of-lengths (abort b) l d = refl
 of-lengths (write-out p) l d = refl
+of-lengths (take-mark b) l d = refl
+of-lengths (return-to b m) l d = refl
 
 -- An outcome, written as bytes.
 abbrev pub on-bytes : Outcome → Result

@@ -1,12 +1,12 @@
 -- THE CHECKS OF A CALL: they go in number order, and the call is refused for the first that is broken, and for nothing else.
-use Prim.Native.Nat.{ℕ}
+use Prim.Native.Nat.{ℕ, _+_, _*_}
 use mathlib.Core.Path.{_≡_, refl, sym, ap, _∙_}
 use mathlib.Core.Logic.{_↔_}
 use mathlib.Core.Bool.{Bool, true, false, not, _&&_}
 use mathlib.Core.List.{List, [], _∷_}
 use mathlib.Core.Option.{Option, none, some}
-use lib.Dec.{ltb}
-use Rattle.def_base.specs.Tests.{clash, none-some, some-inj}
+use lib.Dec.{ltb, eqb}
+use Rattle.def_base.specs.Tests.{pick, clash, none-some, some-inj}
 use Rattle.def_layout.specs.declared.Entry.{Entry}
 use Rattle.def_layout.specs.declared.Desk.{Desk}
 use Rattle.def_model.specs.declared.Refusal.{Refusal}
@@ -17,9 +17,9 @@ use Rattle.def_model.specs.Areas.{Areas}
 use Rattle.def_model.specs.Answers.{refusal-number, Check, check, first-broken, passed}
 use Rattle.def_model.specs.Lookup.{next-above}
 use Rattle.def_model.specs.Sound.{work-pages}
-use Rattle.def_model.specs.Calls.{format-areas, kept-run, stored-run, begin-checks, begin-by, begin-batch, fetch-checks, fetch-by, fetch-slide, next-checks, next-answer, next-slide-by, next-slide, insert-checks, insert-by, insert-slide, delete-checks, delete-by, delete-slide, commit-checks, commit-by, commit-batch, abort-checks, abort-by, abort-batch, write-out-checks, write-out-by, write-out-page}
+use Rattle.def_model.specs.Calls.{format-areas, kept-run, stored-run, begin-checks, begin-by, begin-batch, fetch-checks, fetch-by, fetch-slide, next-checks, next-answer, next-slide-by, next-slide, insert-checks, insert-by, insert-slide, delete-checks, delete-by, delete-slide, commit-checks, commit-by, commit-batch, abort-checks, abort-by, abort-batch, mark-checks, latest-by, mark-batch, return-checks, return-by, return-batch, write-out-checks, write-out-by, write-out-page}
 use Rattle.def_model.specs.Restart.{restart-checks, restart-by, restart-areas}
-use Rattle.def_model.specs.OnBytes.{Call, format, begin, restart, fetch, next, insert, delete, commit, abort, write-out, outcome, Lent, read-areas, lengths-ok, call, call-by}
+use Rattle.def_model.specs.OnBytes.{Call, format, begin, restart, fetch, next, insert, delete, commit, abort, write-out, take-mark, return-to, outcome, Lent, read-areas, lengths-ok, call, call-by}
 
 -- What each call checks, beside the lengths of the areas.
 unfoldable pub checks : Call → Areas → Desk → List Check
@@ -33,6 +33,8 @@ checks (delete b k) a d = delete-checks b k a d
 checks (commit b) a d = commit-checks b a d
 checks (abort b) a d = abort-checks b a d
 checks (write-out p) a d = write-out-checks p a d
+checks (take-mark b) a d = mark-checks b a d
+checks (return-to b m) a d = return-checks b m a d
 
 -- On bytes: 1 goes before all others.
 abbrev pub all-checks : Call → Lent → Desk → List Check
@@ -40,9 +42,9 @@ all-checks c l d = check (not (lengths-ok l)) Lengths ∷ checks c (read-areas l
 
 -- ---- the order
 
--- A refusal's place among the checks. 01: "Checks go in number order, 1 to 19".
+-- A refusal's place among the checks. 01: "Checks go in number order, 1 to 19". 02, U2: 20 is "checked after 12 and before 13".
 abbrev pub place : Refusal → ℕ
-place r = refusal-number r
+place r = pick (eqb (refusal-number r) 20) (2 * 12 + 1) (2 * refusal-number r)
 
 -- Each check's place is above the one before, the first's above n.
 unfoldable pub rises : ℕ → List Check → Bool
@@ -51,7 +53,7 @@ rises n (c ∷ cs) = ltb n (place (c .says)) && rises (place (c .says)) cs
 
 -- IN NUMBER ORDER, of every call.
 pub checks-rise : (c : Call) (l : Lent) (d : Desk) → rises 0 (all-checks c l d) ≡ true
-unfolding rises refusal-number checks begin-checks restart-checks fetch-checks next-checks insert-checks delete-checks commit-checks abort-checks write-out-checks
+unfolding rises refusal-number checks begin-checks restart-checks fetch-checks next-checks insert-checks delete-checks commit-checks abort-checks mark-checks return-checks write-out-checks
 checks-rise format l d = refl
 checks-rise begin l d = refl
 checks-rise restart l d = refl
@@ -62,6 +64,8 @@ checks-rise (delete b k) l d = refl
 checks-rise (commit b) l d = refl
 checks-rise (abort b) l d = refl
 checks-rise (write-out p) l d = refl
+checks-rise (take-mark b) l d = refl
+checks-rise (return-to b m) l d = refl
 
 -- ---- refused for the first that is broken
 
@@ -95,7 +99,7 @@ not-passed (Refused r) p = (r, refl)
 
 -- The typed areas' answer.
 pub first-refused : (c : Call) (a : Areas) (d : Desk) → refusal-in (outcome c a d .answer) ≡ first-broken (checks c a d)
-unfolding refusal-in checks first-broken outcome format-areas begin-batch begin-by kept-run stored-run fetch-slide fetch-by next-slide next-slide-by next-answer insert-slide insert-by delete-slide delete-by commit-batch commit-by abort-batch abort-by write-out-page write-out-by restart-areas restart-by
+unfolding refusal-in checks first-broken outcome format-areas begin-batch begin-by kept-run stored-run fetch-slide fetch-by next-slide next-slide-by next-answer insert-slide insert-by delete-slide delete-by commit-batch commit-by abort-batch abort-by mark-batch latest-by return-batch return-by write-out-page write-out-by restart-areas restart-by
 first-refused format a d = refl
 first-refused begin a d = go (first-broken (begin-checks a d))
   where
@@ -144,6 +148,16 @@ first-refused (abort b) a d = go (first-broken (abort-checks b a d))
 first-refused (write-out p) a d = go (first-broken (write-out-checks p a d))
   where
     go : (o : Option Refusal) → refusal-in (write-out-by o p a d .answer) ≡ o
+    go none = refl
+    go (some r) = refl
+first-refused (take-mark b) a d = go (first-broken (mark-checks b a d))
+  where
+    go : (o : Option Refusal) → refusal-in (latest-by o b a d .answer) ≡ o
+    go none = refl
+    go (some r) = refl
+first-refused (return-to b m) a d = go (first-broken (return-checks b m a d))
+  where
+    go : (o : Option Refusal) → refusal-in (return-by o b m a d .answer) ≡ o
     go none = refl
     go (some r) = refl
 

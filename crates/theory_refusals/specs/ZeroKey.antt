@@ -2,20 +2,18 @@
 -- whatever the areas and the desk hold, and to nothing else.
 use Prim.Native.Nat.{ℕ}
 use mathlib.Core.Path.{_≡_, refl, sym, ap, _∙_}
-use mathlib.Core.Bool.{Bool, true, false, not, _||_}
+use mathlib.Core.Bool.{Bool, true, false, not}
 use mathlib.Core.List.{List, [], _∷_}
-use mathlib.Core.Option.{Option, none, some}
+use mathlib.Core.Option.{some}
 use lib.Dec.{eqb}
 use Rattle.def_base.specs.Tests.{pick, any, clash, none-some, some-inj, true-eq, or-right}
 use Rattle.def_layout.specs.declared.Desk.{Desk}
-use Rattle.def_model.specs.declared.Refusal.{Refusal}
 use Rattle.def_model.specs.declared.Refusal.the-variants.{Lengths, ZeroKey}
 use Rattle.def_model.specs.declared.Answer.the-variants.{Refused}
-use Rattle.def_model.specs.Areas.{Areas}
 use Rattle.def_model.specs.Answers.{refusal-number, Check, check, first-broken}
-use Rattle.def_model.specs.Calls.{begin-checks, fetch-checks, next-checks, insert-checks, delete-checks, commit-checks, abort-checks, write-out-checks}
+use Rattle.def_model.specs.Calls.{begin-checks, fetch-checks, next-checks, insert-checks, delete-checks, commit-checks, abort-checks, mark-checks, return-checks, write-out-checks}
 use Rattle.def_model.specs.Restart.{restart-checks}
-use Rattle.def_model.specs.OnBytes.{Call, format, begin, restart, fetch, next, insert, delete, commit, abort, write-out, Lent, read-areas, lengths-ok, call}
+use Rattle.def_model.specs.OnBytes.{Call, format, begin, restart, fetch, next, insert, delete, commit, abort, write-out, take-mark, return-to, Lent, read-areas, lengths-ok, call}
 use Rattle.def_recovery.specs.Events.{is-format, is-restart}
 use Rattle.theory_refusals.specs.Order.{checks, all-checks, refused-exactly}
 use Rattle.theory_refusals.specs.Left.{zeroes, empties}
@@ -53,7 +51,7 @@ pub record InsertsZero (c : Call) : Type 0 where
 
 -- 7 as an answer means that.
 pub zero-alone : (c : Call) (l : Lent) (d : Desk) → call c l d .answer ≡ Refused ZeroKey → InsertsZero c
-unfolding checks begin-checks restart-checks fetch-checks next-checks insert-checks delete-checks commit-checks abort-checks write-out-checks says-7 any refusal-number first-broken after-first
+unfolding checks begin-checks restart-checks fetch-checks next-checks insert-checks delete-checks commit-checks abort-checks mark-checks return-checks write-out-checks says-7 any refusal-number first-broken after-first
 zero-alone c l d e = go c (refused-exactly c l d ZeroKey .0 e)
   where
     -- It says no 7, so that is not what was broken first.
@@ -75,3 +73,5 @@ zero-alone c l d e = go c (refused-exactly c l d ZeroKey .0 e)
     go (commit b) e = not-7 (all-checks (commit b) l d) refl e
     go (abort b) e = not-7 (all-checks (abort b) l d) refl e
     go (write-out p) e = not-7 (all-checks (write-out p) l d) refl e
+    go (take-mark b) e = not-7 (all-checks (take-mark b) l d) refl e
+    go (return-to b m) e = not-7 (all-checks (return-to b m) l d) refl e

@@ -13,14 +13,14 @@ use Rattle.def_layout.specs.Pages.{zero-page}
 use Rattle.def_layout.specs.RecordBytes.{empty}
 use Rattle.def_model.specs.Areas.{Areas, zero-side, store-some}
 use Rattle.def_model.specs.Answers.{answer-numbers}
-use Rattle.def_model.specs.OnBytes.{Call, format, begin, restart, fetch, next, insert, delete, commit, abort, write-out, outcome, read-areas}
+use Rattle.def_model.specs.OnBytes.{Call, restart, outcome, read-areas}
 use Rattle.def_recovery.specs.Events
 use Rattle.def_recovery.specs.Events.{World, Rubble, Granted, Allowed, AllAllowed, happen, happen-all, is-format, is-restart, of-32-bits, end-call, cut-call}
 use Rattle.def_sessions.specs.Play.{Step, ask, cut, forge-page, forge-slot, Machine, numbers, ended, cut-off, play-step, play}
 use Rattle.def_sessions.specs.OnBytes.{restart-next, Leaves, AllLeave, events, answered, all-answered}
 use Rattle.law_areas.specs.Lengths.{Lengths}
 use Rattle.theory_recovery.specs.Invariant.{Inv}
-use Rattle.theory_recovery.specs.Going.{does}
+use Rattle.theory_recovery.specs.Going.{only-restart, does}
 use Rattle.theory_sessions.specs.Leaving.{pages-count, log-count}
 use Rattle.theory_sessions.specs.Tie.{Calm, Tied, Cut, calm-granted, restart-granted, restart-same, end-answer, ended-tied, cut-off as cut-shown, cut-zeroed}
 
@@ -38,20 +38,6 @@ step-askable (forge-slot n x) = false
 pub data Ready (n m : ℕ) (restarts : Bool) (w : World) (a : Areas) (d : Desk) : Type 0 where
   whole : Tied n m w a d → Ready n m restarts w a d
   halved : Cut n m w a → restarts ≡ true → Ready n m restarts w a d
-
--- The only restart.
-is-it : (c : Call) → is-restart c ≡ true → c ≡ restart
-unfolding is-restart
-is-it restart e = refl
-is-it format e = clash (sym e)
-is-it begin e = clash (sym e)
-is-it (fetch a b) e = clash (sym e)
-is-it (next a b) e = clash (sym e)
-is-it (insert a b d) e = clash (sym e)
-is-it (delete a b) e = clash (sym e)
-is-it (commit a) e = clash (sym e)
-is-it (abort a) e = clash (sym e)
-is-it (write-out a) e = clash (sym e)
 
 -- What a step finds, whichever it is: the invariant, what is granted, the outcome on typed areas, and the stable areas.
 pub record Finds (n m : ℕ) (c : Call) (w : World) (a : Areas) (d : Desk) : Type 0 where
@@ -83,7 +69,7 @@ finds n m c w a d k (whole t) =
     not-true false e = refl
     not-true true e = clash (sym e)
 finds n m c w a d k (halved t e) =
-    let q = is-it c e in
+    let q = only-restart c e in
     record {
       inv = t .inv;
       lengths = t .lengths;

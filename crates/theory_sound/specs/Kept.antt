@@ -22,14 +22,14 @@ use Rattle.def_model.specs.Pending.{held}
 use Rattle.def_model.specs.Lookup.{fetched}
 use Rattle.def_model.specs.Update.{emit, put-record, remove-record}
 use Rattle.def_model.specs.Sound.{sound, work-pages, work-log, work-slots, work-open, update-has-slots, update-has-pages, begin-has-slots}
-use Rattle.def_model.specs.Calls.{run-of, kept-run, stored-run, present, value-or, last-of, zero-key, begin-checks, begin-by, begin-batch, fetch-checks, fetch-by, fetch-slide, next-checks, next-slide-by, next-slide, insert-checks, insert-by, insert-slide, delete-checks, delete-by, delete-slide, commit-checks, commit-by, commit-batch, aborted, abort-checks, abort-by, abort-batch, write-out-checks, write-out-by, write-out-page}
-use Rattle.def_model.specs.OnBytes.{Call, format, begin, restart, fetch, next, insert, delete, commit, abort, write-out, outcome}
+use Rattle.def_model.specs.Calls.{is-none, run-of, kept-run, stored-run, present, value-or, last-of, zero-key, begin-checks, begin-by, begin-batch, fetch-checks, fetch-by, fetch-slide, next-checks, next-slide-by, next-slide, insert-checks, insert-by, insert-slide, delete-checks, delete-by, delete-slide, commit-checks, commit-by, commit-batch, aborted, abort-checks, abort-by, abort-batch, write-out-checks, write-out-by, write-out-page, mark-checks, latest-by, mark-batch, return-checks, return-by, return-batch, returned}
+use Rattle.def_model.specs.OnBytes.{Call, format, begin, restart, fetch, next, insert, delete, commit, abort, write-out, outcome, take-mark, return-to}
 use Rattle.def_recovery.specs.Events.{is-format, is-restart, fits-32, of-32-bits}
 use Rattle.theory_ledger.specs.Small.{Small}
-use Rattle.theory_calls.specs.Checks.{none-broken, kept-check, live-batch, absent-of, present-of}
+use Rattle.theory_calls.specs.Checks.{none-broken, kept-check, some-of, live-batch, absent-of, present-of}
 use Rattle.theory_calls.specs.Refused.{asks-sound}
 use Rattle.theory_sound.specs.SoundAfter.{page-after}
-use Rattle.theory_sound.specs.SoundKept.{areas-after, insert-sound, delete-sound, begin-sound, commit-sound, abort-sound, write-out-sound}
+use Rattle.theory_sound.specs.SoundKept.{areas-after, insert-sound, delete-sound, begin-sound, commit-sound, abort-sound, return-sound, write-out-sound}
 
 -- What a lent register is: at most 896 pages, equal logs, keys of 32 bits.
 pub record Lendable (a : Areas) : Type 0 where
@@ -131,6 +131,26 @@ module _ (a : Areas) (d : Desk) (l : Lendable a) (s : sound a d ≡ true) where
           let (y, f, u) = live-batch (find-batch b (work-open a)) un in
           subst (λ o. SoundAfter a d (kept-run Done a (aborted o (run-of a)) d)) (sym f) (abort-sound a d (l .few) (l .equal) (l .small) s b y f u)
 
+  mark-kept : (b : ℕ) → SoundAfter a d (outcome (take-mark b) a d)
+  unfolding outcome mark-batch latest-by store-all
+  mark-kept b = go (first-broken (mark-checks b a d))
+    where
+      go : (o : Option Refusal) → SoundAfter a d (latest-by o b a d)
+      go (some r) = s
+      go none = s
+
+  return-kept : (b mark : ℕ) → passed (outcome (return-to b mark) a d .answer) ≡ true → SoundAfter a d (outcome (return-to b mark) a d)
+  unfolding outcome return-batch return-by return-checks passed kept-run store-all returned
+  return-kept b mark p = go (first-broken (return-checks b mark a d)) refl p
+    where
+      go : (o : Option Refusal) → first-broken (return-checks b mark a d) ≡ o → passed (return-by o b mark a d .answer) ≡ true → SoundAfter a d (return-by o b mark a d)
+      go (some r) e p = clash (sym p)
+      go none e p =
+          let (w, e₁) = kept-check (sound a d) Unsound _ e in
+          let (op, e₂) = none-broken (check (is-none (find-batch b (work-open a))) NoBatch) _ e₁ in
+          let (y, f) = some-of (find-batch b (work-open a)) op in
+          subst (λ o. SoundAfter a d (kept-run Done a (returned mark o (run-of a)) d)) (sym f) (return-sound a d (l .few) (l .equal) (l .small) s b mark y f)
+
   write-out-kept : (q : ℕ) → passed (outcome (write-out q) a d .answer) ≡ true → SoundAfter a d (outcome (write-out q) a d)
   unfolding outcome write-out-page write-out-by write-out-checks passed stored-run
   write-out-kept q p = go (first-broken (write-out-checks q a d)) p
@@ -154,3 +174,5 @@ sound-kept (delete b q) a d f r k l p = delete-kept a d l (asks-sound (delete b 
 sound-kept (commit b) a d f r k l p = commit-kept a d l (asks-sound (commit b) a d f r p) b p
 sound-kept (abort b) a d f r k l p = abort-kept a d l (asks-sound (abort b) a d f r p) b p
 sound-kept (write-out q) a d f r k l p = write-out-kept a d l (asks-sound (write-out q) a d f r p) q p
+sound-kept (take-mark b) a d f r k l p = mark-kept a d l (asks-sound (take-mark b) a d f r p) b
+sound-kept (return-to b m) a d f r k l p = return-kept a d l (asks-sound (return-to b m) a d f r p) b m p

@@ -10,6 +10,7 @@ pub mod RestartRoom
 pub mod SoundKept
 pub mod Kept
 pub mod SortedList
+pub mod Returning
 pub mod Formatted
 pub mod AcceptedPages
 pub mod Restarted

@@ -149,3 +149,5 @@ module _ (l : Lent) (lens : lengths-ok l ≡ true) where
   calls-leave-sound (OnBytes.commit a) d k p = sound-kept (OnBytes.commit a) (read-areas l) d refl refl k lendable p
   calls-leave-sound (OnBytes.abort a) d k p = sound-kept (OnBytes.abort a) (read-areas l) d refl refl k lendable p
   calls-leave-sound (OnBytes.write-out a) d k p = sound-kept (OnBytes.write-out a) (read-areas l) d refl refl k lendable p
+  calls-leave-sound (OnBytes.take-mark a) d k p = sound-kept (OnBytes.take-mark a) (read-areas l) d refl refl k lendable p
+  calls-leave-sound (OnBytes.return-to a m) d k p = sound-kept (OnBytes.return-to a m) (read-areas l) d refl refl k lendable p

@@ -1,4 +1,4 @@
--- SOUND IS KEPT: every call that is not refused leaves sound areas and a sound desk; and abort always finds room.
+-- SOUND IS KEPT: every call that is not refused leaves sound areas and a sound desk; and abort and return always find room.
 use Prim.Native.Nat.{ℕ, suc, _+_, _-_, _*_, _≤_, _<_}
 use mathlib.Core.Path.{_≡_, refl, sym, ap, _∙_, subst}
 use mathlib.Core.Bool.{true, false}
@@ -19,9 +19,9 @@ use Rattle.def_model.specs.Pending.{held}
 use Rattle.def_model.specs.Lookup.{fetched}
 use Rattle.def_model.specs.TreeRules.{leaf-records, used-pages}
 use Rattle.def_model.specs.Update.{Run, emit, put-record, remove-record}
-use Rattle.def_model.specs.Undo.{abort-run}
+use Rattle.def_model.specs.Undo.{undo-above, return-run, abort-run}
 use Rattle.def_model.specs.Sound.{sound, reserve, work-pages, work-log, work-slots, work-open, update-has-slots, update-has-pages, begin-has-slots}
-use Rattle.def_model.specs.Calls.{run-of, run-side, aborted, abort-of}
+use Rattle.def_model.specs.Calls.{run-of, run-side, aborted, abort-of, is-none, returned, return-of}
 use Rattle.def_model.specs.OnBytes.{Call, begin, insert, delete, commit, outcome}
 use Rattle.theory_tree.specs.Step.Steps.{by-insert, by-delete}
 use Rattle.theory_update.specs.Run.Way.{written-by}
@@ -29,6 +29,8 @@ use Rattle.theory_update.specs.Laws
 use Rattle.theory_update.specs.Laws.{Kept, put-law, remove-law}
 use Rattle.theory_update.specs.Find.Fetching.{fetched-is}
 use Rattle.theory_ledger.specs.Small.{Small}
+use Rattle.theory_ledger.specs.Marks
+use Rattle.theory_ledger.specs.Marks.{above, above-kept, left-with}
 use Rattle.theory_ledger.specs.Batching.{find-number}
 use Rattle.theory_ledger.specs.Runs.{carry-lines}
 use Rattle.theory_history.specs.Core.{Core, core-ready, core-more, told-due}
@@ -36,15 +38,15 @@ use Rattle.theory_history.specs.Notes.{begin-next, commit-next}
 use Rattle.theory_history.specs.Trail.{trail-core, trail-longer}
 use Rattle.theory_history.specs.Updating.{Updated, put-updated, remove-updated}
 use Rattle.theory_history.specs.BatchData.{insert-data, delete-data}
-use Rattle.theory_history.specs.Undoing.{abort-trail}
+use Rattle.theory_history.specs.Undoing.{Returned, return-trail, abort-trail}
 use Rattle.theory_desk.specs.Counting.{change-pending, change-count, drop-pending, more-pending}
 use Rattle.theory_room.specs.Reasons.{Within}
-use Rattle.theory_calls.specs.Checks.{sound-parts, live-batch}
+use Rattle.theory_calls.specs.Checks.{sound-parts, some-of, live-batch}
 use Rattle.theory_calls.specs.Passing.{emit-room}
-use Rattle.theory_calls.specs.Within.{abort-within}
+use Rattle.theory_calls.specs.Within.{return-within, abort-within}
 use Rattle.theory_sound.specs.FromSound.{sound-core}
 use Rattle.theory_sound.specs.LineRoom.{Spent, begin-pages, commit-pages}
-use Rattle.theory_sound.specs.AbortRoom.{abort-spent}
+use Rattle.theory_sound.specs.AbortRoom.{above-spent, abort-spent}
 use Rattle.theory_sound.specs.SoundAfter.{Reserved, reserved, kept-sound, stored-sound}
 
 -- The areas after a call and all its stores.
@@ -55,7 +57,8 @@ module _ (a : Areas) (d : Desk) (few : length (a .work .pages) ≤ map-bits) (eq
   n : ℕ
   n = length (a .work .pages)
 
-  sl : List Entry
+  -- The slides of the committed batches.
+  pub sl : List Entry
   sl = sound-core a d s few small .0
 
   core : Core n (run-of a) sl
@@ -273,13 +276,65 @@ module _ (a : Areas) (d : Desk) (few : length (a .work .pages) ≤ map-bits) (eq
       let su = sp .used in
       kept-sound a d s few t sl c (g .recs) (g .log ∙ ap (_++ g .recs) log-is) (record { slots-free = omega arith; pages-free = omega arith })
 
+  -- ---- return
+
+  return-goes : (b mark : ℕ) (y : Batch) → find-batch b (work-open a) ≡ some y → Spent (32 * above mark (y .lines)) (7 * above mark (y .lines)) (run-of a) (return-run mark y (run-of a))
+  unfolding return-run
+  return-goes b mark y f =
+      let f′ : find-batch b (open-batches (run-of a .log)) ≡ some y = subst (λ z. find-batch b z ≡ some y) (sym opens) f in
+      let (dp, dl) = drop-pending b (work-open a) y f in
+      let ak = above-kept mark (y .lines) in
+      let x = kept .slots-free in
+      let kf = kept .pages-free in
+      let ls = room-is in
+      let pa : used-pages (run-of a .pages) ≡ used-pages (work-pages a) = ap used-pages pages-are in
+      let pl : length (run-of a .pages) ≡ length (work-pages a) = ap length pages-are in
+      subst (λ k. Spent (32 * above mark (y .lines)) (7 * above mark (y .lines)) (run-of a) (undo-above mark k (y .lines) (run-of a))) (find-number b (open-batches (run-of a .log)) y f′)
+      (above-spent n most mark (y .lines) (run-of a) sl b y core f′ refl (omega arith) (omega arith))
+
+  -- What a return leaves.
+  pub return-returned : (b mark : ℕ) (y : Batch) → find-batch b (work-open a) ≡ some y → Returned mark (run-of a) sl (return-run mark y (run-of a)) b y
+  return-returned b mark y f =
+      let f′ : find-batch b (open-batches (run-of a .log)) ≡ some y = subst (λ z. find-batch b z ≡ some y) (sym opens) f in
+      return-trail n most mark (run-of a) sl b y core f′ (sym (find-number b (open-batches (run-of a .log)) y f′)) (return-goes b mark y f .goes)
+
+  pub return-sound : (b mark : ℕ) (y : Batch) → find-batch b (work-open a) ≡ some y → sound (record { work = run-side (work-slots a) (return-run mark y (run-of a)); stable = a .stable }) (desk-of (return-run mark y (run-of a) .log) (d .stored)) ≡ true
+  unfolding n left-with
+  return-sound b mark y f =
+      let t = return-run mark y (run-of a) in
+      let sp = return-goes b mark y f in
+      let rt = return-returned b mark y f in
+      let c = trail-core most (rt .trail) core in
+      let g = trail-longer (rt .trail) in
+      let new = left-with (rt .last) (Marks.kept mark (y .lines)) in
+      let o : open-batches (t .log) ≡ change-batch b new (work-open a) = rt .opens ∙ ap (change-batch b new) opens in
+      let k = change-pending b new (work-open a) y f in
+      let l = change-count b new (work-open a) in
+      let ak = above-kept mark (y .lines) in
+      let pc : pending-count (open-batches (t .log)) ≡ pending-count (change-batch b new (work-open a)) = ap pending-count o in
+      let bc : length (open-batches (t .log)) ≡ length (change-batch b new (work-open a)) = ap length o in
+      let x = kept .slots-free in
+      let kf = kept .pages-free in
+      let ls = room-is in
+      let pa : used-pages (run-of a .pages) ≡ used-pages (work-pages a) = ap used-pages pages-are in
+      let pl : length (run-of a .pages) ≡ length (work-pages a) = ap length pages-are in
+      let sr = sp .room in
+      let sw = return-within (work-slots a) mark y (run-of a) within in
+      let sz = sp .size in
+      let su = sp .used in
+      kept-sound a d s few t sl c (g .recs) (g .log ∙ ap (_++ g .recs) log-is) (record { slots-free = omega arith; pages-free = omega arith })
+
   -- ---- write-out
 
   pub write-out-sound : (stable : Side) → stable .log ≡ store-all (log-stores (d .stored) (run-of a .log)) (a .stable) .log → sound (record { work = run-side (work-slots a) (run-of a); stable = stable }) (desk-of (run-of a .log) (length (run-of a .log))) ≡ true
   unfolding run-of n
   write-out-sound stable st = stored-sound a d s few (run-of a) sl core [] (sym (append-nil (work-log a))) kept stable (let x = kept .slots-free in omega arith) st
 
-  -- ABORT NEVER STOPS: 19 is never answered.
+  -- ABORT AND RETURN NEVER STOP: 19 is never answered.
   pub abort-finds-room : (b : ℕ) → unmarked (find-batch b (work-open a)) ≡ true → abort-of b a .stop ≡ 0
   unfolding aborted
   abort-finds-room b un = let (y, f, u) = live-batch (find-batch b (work-open a)) un in ap (λ o. aborted o (run-of a) .stop) f ∙ abort-goes b y f u .goes
+
+  pub return-finds-room : (b mark : ℕ) → is-none (find-batch b (work-open a)) ≡ false → return-of b mark a .stop ≡ 0
+  unfolding returned
+  return-finds-room b mark op = let (y, f) = some-of (find-batch b (work-open a)) op in ap (λ o. returned mark o (run-of a) .stop) f ∙ return-goes b mark y f .goes

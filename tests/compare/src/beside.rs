@@ -89,8 +89,7 @@ impl Beside {
 fn numbers_of(answer: Result<Answer, Refusal>) -> [u32; 3] {
     match answer {
         Ok(Answer::Done) => [0, 0, 0],
-        Ok(Answer::Batch(batch)) => [0, batch, 0],
-        Ok(Answer::Value(value)) => [0, value, 0],
+        Ok(Answer::Batch(number) | Answer::Mark(number) | Answer::Value(number)) => [0, number, 0],
         Ok(Answer::Slide { key, value }) => [0, key, value],
         Ok(Answer::Restarted { ended, changes }) => [0, ended, changes],
         Err(refusal) => [u32::from(refusal.number()), 0, 0],

@@ -30,7 +30,7 @@ const RUNS: [Runs; 6] = [
 
 type Try = (&'static str, fn() -> damage::Tried);
 
-const TRIES: [Try; 29] = [
+const TRIES: [Try; 30] = [
     ("every bit of a stored image turned", damage::bits_of_the_image),
     ("bits of all areas turned, for the other calls", damage::bits_for_other_calls),
     ("every bit of the desk turned", damage::bits_of_the_desk),
@@ -59,6 +59,7 @@ const TRIES: [Try; 29] = [
     ("exact room in the pages", edges::exact_pages),
     ("the largest redo", edges::largest_redo),
     ("inserts of key 0, and slide 0 from the field", edges::key_0),
+    ("marks, and returns to them", edges::marks),
     ("two registers in two threads", edges::two_threads),
 ];
 
@@ -119,7 +120,7 @@ impl Gate<'_> {
 
     /// A check that never met an answer has not compared it.
     fn every_answer_was_met(&self) -> Checked {
-        let (batch, key, value, page) = (0, 0, 0, 0);
+        let (batch, key, value, mark, page) = (0, 0, 0, 0, 0);
         let calls = [
             Call::Format,
             Call::Begin,
@@ -129,6 +130,8 @@ impl Gate<'_> {
             Call::Delete { batch, key },
             Call::Commit { batch },
             Call::Abort { batch },
+            Call::Mark { batch },
+            Call::Return { batch, mark },
             Call::WriteOut { page },
             Call::Restart,
         ];

@@ -1,4 +1,4 @@
-//! The library's ten functions, as include/donzhikar.h declares them.
+//! The library's twelve functions, as include/donzhikar.h declares them.
 
 use crate::loan::Loan;
 use reference::calls::Call;
@@ -8,8 +8,10 @@ fn read_only(made: Call) -> [bool; 4] {
     match made {
         Call::Format => [false, false, false, false],
         Call::Begin => [true, true, false, true],
-        Call::Fetch { .. } | Call::Next { .. } => [true, true, true, true],
-        Call::Insert { .. } | Call::Delete { .. } | Call::Abort { .. } => [false, true, false, true],
+        Call::Fetch { .. } | Call::Next { .. } | Call::Mark { .. } => [true, true, true, true],
+        Call::Insert { .. } | Call::Delete { .. } | Call::Abort { .. } | Call::Return { .. } => {
+            [false, true, false, true]
+        }
         Call::Commit { .. } => [true, true, false, false],
         Call::WriteOut { .. } => [true, false, true, false],
         Call::Restart => [false, true, false, false],
@@ -39,6 +41,8 @@ functions! {
     donzhikar_delete(batch, key);
     donzhikar_commit(batch);
     donzhikar_abort(batch);
+    donzhikar_mark(batch);
+    donzhikar_return(batch, mark);
     donzhikar_write_out(page);
     donzhikar_restart();
 }
@@ -73,6 +77,8 @@ pub fn call(loan: &mut Loan, made: Call) -> (u32, usize) {
         Call::Delete { batch, key } => make!(donzhikar_delete, batch, key),
         Call::Commit { batch } => make!(donzhikar_commit, batch),
         Call::Abort { batch } => make!(donzhikar_abort, batch),
+        Call::Mark { batch } => make!(donzhikar_mark, batch),
+        Call::Return { batch, mark } => make!(donzhikar_return, batch, mark),
         Call::WriteOut { page } => make!(donzhikar_write_out, page),
         Call::Restart => make!(donzhikar_restart),
     })

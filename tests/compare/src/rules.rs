@@ -14,8 +14,9 @@ pub fn reasons(made: Call) -> &'static [u32] {
         Call::Fetch { .. } | Call::Next { .. } => &[1, 11, 12, 14, 16],
         Call::Insert { .. } => &[1, 7, 11, 12, 14, 15, 17, 18],
         Call::Delete { .. } => &[1, 11, 12, 14, 16, 17, 18],
-        Call::Commit { .. } => &[1, 11, 12],
+        Call::Commit { .. } | Call::Mark { .. } => &[1, 11, 12],
         Call::Abort { .. } => &[1, 11, 12, 19],
+        Call::Return { .. } => &[1, 11, 12, 19, 20],
         Call::WriteOut { .. } => &[1, 2, 11],
         Call::Restart => &[1, 3, 4, 5, 6, 17, 18],
     }

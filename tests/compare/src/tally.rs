@@ -13,8 +13,8 @@ pub struct Tally {
     stacks: BTreeMap<char, usize>,
 }
 
-/// No register that the calls have built gives it, and no sound one.
-const NEVER_MET: (char, u32) = ('A', 19);
+/// No register that the calls have built gives these, and no sound one.
+const NEVER_MET: [(char, u32); 2] = [('A', 19), ('T', 19)];
 
 impl Tally {
     pub fn count(&mut self, made: Call, reason: u32, stack: usize) {
@@ -57,7 +57,7 @@ impl Tally {
             let letter = letter_of(call);
             reasons(*call).iter().chain(&[0]).map(move |reason| (letter, *reason))
         });
-        listed.filter(|answer| *answer != NEVER_MET && !self.answers.contains_key(answer)).collect()
+        listed.filter(|answer| !NEVER_MET.contains(answer) && !self.answers.contains_key(answer)).collect()
     }
 }
 

@@ -7,6 +7,7 @@ use crate::images::Images;
 use crate::tally::Tally;
 use reference::bench::{run, Book, Command, Event, Instrument, Random, Run, Shape};
 use reference::calls::{sound, Call, Outcome};
+use reference::layout::Desk;
 use reference::Refusal;
 
 /// What was compared.
@@ -77,6 +78,8 @@ impl Course {
         self.beside.loan.set(&self.model.areas, &self.model.desk);
         match command {
             Command::Damage { .. } => (self.book, self.left_sound) = (None, false),
+            // What is stored is as it was.
+            Command::DamageDesk { .. } => self.left_sound = false,
             Command::Lend(_) => self.check_image()?,
             _ => {}
         }
@@ -90,7 +93,7 @@ impl Course {
         }
         self.check_cuts(made, &outcome)?;
         let event = self.model.take(made, outcome);
-        self.book = Book::after(self.book.take(), &event);
+        self.book = Book::after(self.book.take(), &event, &self.model.desk);
         self.left_sound = leaves_sound(&event, self.left_sound);
         if event.was_cut {
             self.cuts += 1;
@@ -124,7 +127,8 @@ impl Course {
                 continue;
             }
             let event = Event { call: made, answer: outcome.answer, was_cut: true, carried_out, stores };
-            let Some(book) = Book::after(Some(book.clone()), &event) else {
+            // Of a cut call the book notes no number, so the desk does not matter.
+            let Some(book) = Book::after(Some(book.clone()), &event, &Desk::empty()) else {
                 return Ok(());
             };
             let place = || format!("cut after {carried_out} of {stores} stores");

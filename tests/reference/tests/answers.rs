@@ -1,5 +1,5 @@
 //! Demand 2 on random traces: looking up, stepping to the next slide, adding and removing answer as a sorted list of
-//! slides would, under the rules on held keys.
+//! slides would, under the rules on held keys, also of batches that took back what they did after a mark.
 
 mod common;
 
@@ -13,8 +13,15 @@ use std::collections::BTreeMap;
 #[derive(Default)]
 struct List {
     slides: BTreeMap<u32, u32>,
-    /// Of each open batch: the key of each change and the value there before.
-    changes: BTreeMap<u32, Vec<(u32, Option<u32>)>>,
+    /// Of each open batch, oldest first.
+    changes: BTreeMap<u32, Vec<Change>>,
+}
+
+/// A change with its record's number, its key and the value there before.
+struct Change {
+    number: u32,
+    key: u32,
+    before: Option<u32>,
 }
 
 impl List {
@@ -25,20 +32,24 @@ impl List {
         }
     }
 
-    fn change(&mut self, batch: u32, key: u32, value: Option<u32>) {
+    fn change(&mut self, batch: u32, key: u32, value: Option<u32>, after: &Instrument) {
         let before = self.set(key, value);
-        self.changes.entry(batch).or_default().push((key, before));
+        let number = after.desk.last_of(batch).expect("the batch is open");
+        self.changes.entry(batch).or_default().push(Change { number, key, before });
     }
 
-    fn take_back(&mut self, batch: u32) {
-        for (key, before) in self.changes.remove(&batch).unwrap_or_default().into_iter().rev() {
+    /// Take back what a batch changed after its mark.
+    fn take_back(&mut self, batch: u32, mark: u32) {
+        let changes = self.changes.entry(batch).or_default();
+        let later = changes.split_off(changes.partition_point(|change| change.number <= mark));
+        for Change { key, before, .. } in later.into_iter().rev() {
             self.set(key, before);
         }
     }
 
     fn held(&self, batch: u32, keys: std::ops::RangeInclusive<u32>) -> bool {
         let others = self.changes.iter().filter(|(other, _)| **other != batch);
-        others.flat_map(|(_, changes)| changes).any(|(key, _)| keys.contains(key))
+        others.flat_map(|(_, changes)| changes).any(|change| keys.contains(&change.key))
     }
 
     /// What a call on a key answers, room aside.
@@ -74,10 +85,14 @@ impl List {
     fn take(&mut self, event: &Event, after: &Instrument) {
         match (event.call, event.finished()) {
             (_, Some(Answer::Batch(batch))) => drop(self.changes.insert(batch, Vec::new())),
-            (Call::Insert { batch, key, value }, Some(_)) => self.change(batch, key, Some(value)),
-            (Call::Delete { batch, key }, Some(_)) => self.change(batch, key, None),
+            (Call::Insert { batch, key, value }, Some(_)) => self.change(batch, key, Some(value), after),
+            (Call::Delete { batch, key }, Some(_)) => self.change(batch, key, None, after),
             (Call::Commit { batch }, Some(_)) => drop(self.changes.remove(&batch)),
-            (Call::Abort { batch }, Some(_)) => self.take_back(batch),
+            (Call::Return { batch, mark }, Some(_)) => self.take_back(batch, mark),
+            (Call::Abort { batch }, Some(_)) => {
+                self.take_back(batch, 0);
+                self.changes.remove(&batch);
+            }
             // What these leave is demand 3's matter, and the test of recovery's.
             (Call::Format | Call::Restart, Some(_)) => *self = List::of(after),
             _ => {}
@@ -96,7 +111,7 @@ fn is_for_room(answer: Result<Answer, Refusal>) -> bool {
 
 #[test]
 fn a_sorted_list_of_slides_gives_the_same_answers() {
-    let mut compared = 0;
+    let (mut compared, mut returns) = (0, 0);
     for seed in 300..308 {
         let mut list = List::default();
         each_event(&run(Shape::Plain, seed, 1000), |before, event, after| {
@@ -108,11 +123,13 @@ fn a_sorted_list_of_slides_gives_the_same_answers() {
                 compared += 1;
             }
             list.take(event, after);
+            let undoes = matches!(event.call, Call::Return { .. }) && before.desk != after.desk;
+            returns += usize::from(undoes && event.finished().is_some());
             if let Some(left) = event.finished().and_then(|_| sound(&after.areas, &after.desk)) {
                 let slides = left.slides.iter().map(|slide| (slide.key, slide.value));
                 assert!(slides.eq(list.slides.iter().map(|(key, value)| (*key, *value))), "the leaves are the list");
             }
         });
     }
-    assert!(compared > 4000);
+    assert!(compared > 4000 && returns > 100, "{compared} answers, {returns} returns that undo something");
 }

@@ -6,7 +6,8 @@ mod common;
 use common::each_event;
 use reference::bench::{run, Book, Event, Instrument, Shape};
 use reference::calls::{call, redo_alone, sound, Answer, Call, Outcome};
-use reference::layout::{Areas, Desk, Kind};
+use reference::layout::{Areas, Desk, Kind, Record};
+use reference::log::Work;
 use reference::sizes::MOST_PAGES;
 use reference::tree::slides_of;
 use reference::Refusal;
@@ -16,10 +17,11 @@ fn restart(areas: &Areas) -> Outcome {
 }
 
 /// A restart of the stored image, given right lengths and not cut.
-fn check_image(areas: &Areas, book: &Book) {
+fn check_image(areas: &Areas, book: &Book, seen: &mut Seen) {
     let image = areas.with_right_lengths();
     let (redone, _) = redo_alone(&image).expect("redo never meets damage");
     assert!(slides_of(&redone.pages).is_ok(), "redo alone gives a tree by the rules");
+    seen.partly += usize::from(has_partly_taken_back(&redone));
     let outcome = restart(&image);
     match outcome.answer {
         Ok(_) => check_slides(&outcome, book),
@@ -30,6 +32,13 @@ fn check_image(areas: &Areas, book: &Book) {
         }
         Err(refusal) => panic!("restart called the image damaged: {refusal:?}"),
     }
+}
+
+/// Whether an open case has no abort mark, something undone and something pending.
+fn has_partly_taken_back(work: &Work) -> bool {
+    let is_undo = |record: &&Record| matches!(record.kind, Kind::UndoInsert | Kind::UndoDelete);
+    let undone: Vec<u32> = work.log.records.iter().filter(is_undo).map(|record| record.batch).collect();
+    work.open.list.iter().any(|open| !open.marked && !open.pending.is_empty() && undone.contains(&open.number))
 }
 
 /// The leaves hold the book's slides, keys and values.
@@ -61,17 +70,17 @@ fn first_shortage(image: &Areas, free: usize, larger: &Outcome) -> Option<Refusa
 
 /// Every other place at which this call could have been cut. With no store it leaves the image of the call before; with
 /// all of them, that of the call itself.
-fn check_every_cut(before: &Instrument, made: Call, book: &Option<Book>) {
+fn check_every_cut(before: &Instrument, made: Call, book: &Option<Book>, seen: &mut Seen) {
     let outcome = before.outcome_of(made);
     let stores = outcome.stores.len();
     for carried_out in 1..stores {
         let event = Event { call: made, answer: outcome.answer, was_cut: true, carried_out, stores };
-        let Some(book) = Book::after(book.clone(), &event) else {
-            return;
-        };
         let mut cut = before.clone();
         cut.pull_plug(&outcome, carried_out);
-        check_image(&cut.areas, &book);
+        let Some(book) = Book::after(book.clone(), &event, &cut.desk) else {
+            return;
+        };
+        check_image(&cut.areas, &book, seen);
     }
 }
 
@@ -98,19 +107,21 @@ struct Seen {
     restarts: usize,
     cut_restarts: usize,
     images: usize,
+    /// Images in which an open case has been taken back in part.
+    partly: usize,
 }
 
 fn check_run(shape: Shape, seed: u64, calls: usize, seen: &mut Seen) {
     let run = run(shape, seed, calls);
     let mut book = run.book.clone();
     each_event(&run, |before, event, after| {
-        check_every_cut(before, event.call, &book);
+        check_every_cut(before, event.call, &book, seen);
         let slides_before = book.as_ref().map(|book| book.slides.clone());
-        book = Book::after(book.take(), event);
+        book = Book::after(book.take(), event, &after.desk);
         let slides = book.as_ref().map(|book| &book.slides);
         // The same image and the same slides would only be looked at twice.
         if !same_image(before, after) || slides_before.as_ref() != slides {
-            book.iter().for_each(|book| check_image(&after.areas, book));
+            book.iter().for_each(|book| check_image(&after.areas, book, seen));
             seen.images += 1;
         }
         check_areas(before, event, after);
@@ -127,6 +138,7 @@ fn check_seeds(shape: Shape, seeds: std::ops::Range<u64>, calls: usize) {
     }
     // A trace without cuts would check nothing.
     assert!(seen.cuts > 50 && seen.restarts > 20 && seen.cut_restarts > 20 && seen.images > 500);
+    assert!(seen.partly > 20, "{} images with a case partly taken back", seen.partly);
 }
 
 #[test]

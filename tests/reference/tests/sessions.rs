@@ -146,8 +146,25 @@ fn the_console_session() {
 
 #[test]
 fn any_other_console_line_prints_a_question_mark() {
-    let others =
-        ["", " ", "b", "B ", " B", "B 1", "Z", "R", "I 1 2", "F  1 2", "F 1 +2", "F 1 4294967296", "B\r", "X 1"];
+    let others = [
+        "",
+        " ",
+        "b",
+        "B ",
+        " B",
+        "B 1",
+        "Z",
+        "R",
+        "I 1 2",
+        "F  1 2",
+        "F 1 +2",
+        "F 1 4294967296",
+        "B\r",
+        "X 1",
+        "M 1",
+        "T 1 1",
+        "d 0 1",
+    ];
     for line in others {
         assert_eq!(run_console(format!("{line}\n").as_bytes()), "?\n", "{line:?}");
     }

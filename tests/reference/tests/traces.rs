@@ -87,8 +87,9 @@ fn linked_before_a_join(records: &[&Record]) -> Option<&'static str> {
     }
 }
 
-/// What the traces are for. Restart's 5 and 6 need damage, and its 18 and abort's 19 an image past the reserves.
-const WANTED: [&str; 69] = [
+/// What the traces are for. Restart's 5 and 6 need damage, and its 18 and the 19 of abort and return an image past the
+/// reserves.
+const WANTED: [&str; 76] = [
     "link after the right neighbour",
     "link of the left neighbour",
     "Split at level 0",
@@ -134,6 +135,11 @@ const WANTED: [&str; 69] = [
     "Commit refused 12",
     "Abort refused 11",
     "Abort refused 12",
+    "Mark refused 11",
+    "Mark refused 12",
+    "Return refused 11",
+    "Return refused 12",
+    "Return refused 20",
     "WriteOut refused 2",
     "WriteOut refused 11",
     "Restart refused 3",
@@ -141,7 +147,9 @@ const WANTED: [&str; 69] = [
     "Commit cut",
     "Format cut",
     "Insert cut",
+    "Mark cut",
     "Restart cut",
+    "Return cut",
     "WriteOut cut",
     "cut after Begin",
     "cut after Insert",
@@ -163,11 +171,100 @@ const WANTED: [&str; 69] = [
 #[test]
 fn the_traces_meet_each_tree_change_each_refusal_and_each_kind_of_cut() {
     let mut met = BTreeSet::new();
-    for seed in 1..=12 {
+    for seed in 1..=16 {
         each_event(&run(Shape::Plain, seed, 2000), |before, event, after| met.extend(features(before, event, after)));
     }
     let missed: Vec<&str> = WANTED.into_iter().filter(|feature| !met.contains(*feature)).collect();
     assert!(missed.is_empty(), "the traces never meet {missed:?}");
+}
+
+/// What a return met, in words.
+fn of_return(before: &Instrument, event: &Event, after: &Instrument) -> Option<&'static str> {
+    let Call::Return { batch, mark } = event.call else {
+        return None;
+    };
+    let work = sound(&before.areas, &before.desk).filter(|_| !event.was_cut)?.work;
+    let open = work.open.find(batch)?;
+    let record = work.log.records.iter().find(|record| record.own == mark);
+    if event.answer.is_err() {
+        return Some(match record {
+            None if mark == 0 => "20 for 0",
+            None => "20 beyond the log",
+            Some(record) if record.batch == 0 => "20 for a tree change",
+            Some(record) if work.open.find(record.batch).is_some() => "20 for another open batch's record",
+            Some(_) => "20 for an ended batch's record",
+        });
+    }
+    let stale = record.is_some_and(|record| match record.kind {
+        Kind::Insert | Kind::Delete => !open.pending.iter().any(|update| update.number == mark),
+        kind => kind != Kind::Begin,
+    });
+    let above = open.pending.iter().filter(|update| update.number > mark).count();
+    Some(match (above, open.pending.len() - above) {
+        (0, _) => "nothing above",
+        _ if stale => "to a stale mark",
+        (_, 0) => "to the begin of all",
+        _ if after.desk.written - before.desk.written > above as u32 => "a part, with changes of the tree",
+        _ => "a part",
+    })
+}
+
+/// A key that a batch has freed by a return is taken by another, while the first is still open.
+#[derive(Default)]
+struct Freed {
+    /// The batch and key of each update that a return took back.
+    keys: BTreeSet<(u32, u32)>,
+    taken: usize,
+}
+
+impl Freed {
+    fn follow(&mut self, before: &Instrument, event: &Event, after: &Instrument) {
+        let pending = |of: &Instrument, batch: u32| -> BTreeSet<(u32, u32)> {
+            let open = sound(&of.areas, &of.desk).and_then(|sound| sound.work.open.find(batch).cloned());
+            open.iter().flat_map(|open| &open.pending).map(|update| (batch, update.key)).collect()
+        };
+        match (event.call, event.finished()) {
+            (Call::Return { batch, .. }, Some(_)) => {
+                self.keys.extend(pending(before, batch).difference(&pending(after, batch)));
+            }
+            (Call::Insert { batch, key, .. } | Call::Delete { batch, key }, Some(_)) => {
+                let by_other = |freed: &&(u32, u32)| freed.1 == key && freed.0 != batch;
+                self.taken += self.keys.iter().filter(by_other).count();
+            }
+            (Call::Commit { batch } | Call::Abort { batch }, Some(_)) => self.keys.retain(|(of, _)| *of != batch),
+            (Call::Format | Call::Restart, _) => self.keys.clear(),
+            _ => {}
+        }
+    }
+}
+
+#[test]
+fn the_traces_meet_what_returns_are_for() {
+    let mut met = BTreeSet::new();
+    let mut taken = 0;
+    for seed in 21..=32 {
+        let mut freed = Freed::default();
+        each_event(&run(Shape::Plain, seed, 1000), |before, event, after| {
+            met.extend(of_return(before, event, after));
+            freed.follow(before, event, after);
+        });
+        taken += freed.taken;
+    }
+    let wanted = [
+        "20 for 0",
+        "20 beyond the log",
+        "20 for a tree change",
+        "20 for another open batch's record",
+        "20 for an ended batch's record",
+        "nothing above",
+        "to a stale mark",
+        "to the begin of all",
+        "a part",
+        "a part, with changes of the tree",
+    ];
+    let missed: Vec<&str> = wanted.into_iter().filter(|feature| !met.contains(*feature)).collect();
+    assert!(missed.is_empty(), "never met: {missed:?}");
+    assert!(taken > 5, "{taken} keys that a return has freed are taken by another batch");
 }
 
 #[test]
@@ -223,13 +320,13 @@ fn new_of_key_0(before: &Instrument, after: &Instrument) -> Vec<Kind> {
 fn the_runs_from_the_field_start_with_slide_0_and_meet_what_is_done_to_it() {
     let mut met = BTreeSet::new();
     let mut filed = 0;
-    for seed in 1..=20 {
+    for seed in 1..=30 {
         let run = run(Shape::Field, seed, 200);
         assert!(redo_alone(&run.start.areas).is_ok(), "a whole image");
         filed += usize::from(run.book.as_ref().is_some_and(|book| book.slides.contains_key(&0)));
         each_event(&run, |before, event, after| met.extend(with_key_0(event, before, after)));
     }
-    assert!(filed >= 5, "{filed} of 20 have slide 0 filed");
+    assert!(filed >= 5, "{filed} of 30 have slide 0 filed");
     let wanted = [
         "fetch 0",
         "fetch 14",

@@ -63,6 +63,11 @@ fn keys_of_unread_barcodes() {
 }
 
 #[test]
+fn marks_and_returns() {
+    compare("u02-", 7, vectors);
+}
+
+#[test]
 fn images_from_the_field() {
     compare("field/", 5, vectors);
 }

@@ -33,8 +33,10 @@ pub enum Refusal {
     SlotsShort = 17,
     /// Pages short.
     PagesShort = 18,
-    /// Abort ran out of slots or pages.
-    AbortShort = 19,
+    /// An abort or a return to a mark ran out of slots or pages.
+    UndoShort = 19,
+    /// The mark is not the number of a record of that batch.
+    NoMark = 20,
 }
 
 impl Refusal {

@@ -133,13 +133,27 @@ fn lost_cases(areas: &Areas, kept: &[Record]) -> Vec<String> {
     lines
 }
 
+/// The updates of a case that it has not taken back. An undo names the newest one that is left, so that an update that
+/// cannot be read does no harm.
+fn kept_updates<'a>(of_batch: impl Iterator<Item = &'a Record>) -> Vec<&'a Record> {
+    let mut updates: Vec<&Record> = Vec::new();
+    for record in of_batch {
+        match record.kind {
+            Kind::Insert | Kind::Delete => updates.push(record),
+            Kind::UndoInsert | Kind::UndoDelete => updates.retain(|update| update.own <= record.previous),
+            _ => {}
+        }
+    }
+    updates
+}
+
 fn lost_case(commit: &Record, kept: &[Record], after: &[Record]) -> String {
     let of_batch = kept.iter().chain(after).filter(|record| record.batch == commit.batch);
-    let updates: Vec<String> = of_batch
-        .filter_map(|record| match record.kind {
-            Kind::Insert => Some(format!("insert {} {}", record.key, record.second)),
-            Kind::Delete => Some(format!("delete {}", record.key)),
-            _ => None,
+    let updates: Vec<String> = kept_updates(of_batch)
+        .iter()
+        .map(|update| match update.kind {
+            Kind::Insert => format!("insert {} {}", update.key, update.second),
+            _ => format!("delete {}", update.key),
         })
         .collect();
     let updates = if updates.is_empty() { "no update that can be read".to_string() } else { updates.join(", ") };

@@ -4,6 +4,7 @@
 use decode::layout::Areas;
 use decode::sizes::{PAGE_BYTES, SLOT_BYTES};
 use inspect::{salvage, slides, why, why_image, Image, Lost, Shape};
+use reference::bench::areas_after;
 use std::path::{Path, PathBuf};
 
 fn image(name: &str) -> Image {
@@ -50,6 +51,34 @@ fn a_damaged_log_is_kept_up_to_the_damage() {
         let before = byte / SLOT_BYTES * SLOT_BYTES;
         assert_eq!(salvaged.image.areas.stable_log[..before], damaged.areas.stable_log[..before], "byte {byte}");
     }
+}
+
+/// The stable areas after these commands of the vectors.
+fn image_of(commands: &str) -> Image {
+    let Areas { stable_pages, stable_log, .. } = areas_after(commands.as_bytes()).expect("every line a command");
+    Image::raw(stable_pages, stable_log)
+}
+
+/// Case 4 took back its second tray, records 7 and 8, by 9 and 10, before it filled a third.
+const TAKEN_BACK: &str = "L 16384 16384 57600 57600\nZ\nB\nI 1 10 1\nC 1\nB\nI 4 20 2\nD 4 10\nI 4 30 3\nI 4 40 5\n\
+                          T 4 6\nI 4 50 6\nC 4\n";
+
+#[test]
+fn a_lost_case_is_listed_with_what_it_kept() {
+    let listed = |damaged: usize, updates: &str| {
+        let mut image = image_of(TAKEN_BACK);
+        // A spare bit.
+        flip(&mut image.areas, 3, (damaged - 1) * SLOT_BYTES + 3);
+        let lines = salvage(&image).expect("lengths").lines;
+        let wanted = format!("lost: batch 4, committed by record 12: {updates}");
+        assert!(lines.contains(&wanted), "record {damaged} damaged: {lines:?}");
+    };
+    // The begin, or what was taken back, or the first of the undos cannot be read.
+    for damaged in [4, 7, 8, 9] {
+        listed(damaged, "insert 20 2, delete 10, insert 50 6");
+    }
+    listed(5, "delete 10, insert 50 6");
+    listed(11, "insert 20 2, delete 10");
 }
 
 #[test]

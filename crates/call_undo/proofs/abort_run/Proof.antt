@@ -7,7 +7,7 @@ use Rattle.call_undo.specs.Lines.{abort-parts}
 returns : tie.Need-returns
 returns c s y h e sits fits =
     let a = c .before .before .before .before .before .before .before .before .before .before .before .before .before .before .before .before .before .before .before .before .before .before .before .before .args in
-    abort-parts h (c .before .before .before .before .before .before .before .before .before .before .before .before .before .before .before .before .before .before .before .before .before .before .before .before .pre .3) (a .row) y _ e sits fits (c .before .before .before .before .before .before .before .before .before .before .before .before .before .before .before .before .before .before .before .before .before .batch-row .ensures .0) (c .before .before .before .before .before .before .before .before .before .before .before .before .before .before .before .before .before .before .emit .ensures s h) (c .before .before .before .before .before .before .before .before .before .before .before .undo-lines .ensures) (c .before .before .before .before .end-batch .ensures)
+    abort-parts h (c .before .before .before .before .before .before .before .before .before .before .before .before .before .before .before .before .before .before .before .before .before .before .before .before .pre .3) (a .row) y _ e sits fits (c .before .before .before .before .before .before .before .before .before .before .before .before .before .before .before .before .before .before .before .before .before .batch-row .ensures .0) (c .before .before .before .before .before .before .before .before .before .before .before .before .before .before .before .before .before .before .emit .ensures s h) (c .before .before .before .before .before .before .before .before .before .before .before .undo-above .ensures) (c .before .before .before .before .end-batch .ensures)
 
 pub abort-run-spec : {M : Type 1} → statement M
 abort-run-spec =

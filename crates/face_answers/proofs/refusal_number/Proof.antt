@@ -2,6 +2,7 @@
 use borrow.Author.Needs.{needs}
 use Rattle.face_answers.proofs.refusal_number.Statement.{statement}
 use Rattle.face_answers.proofs.refusal_number.Tie as tie
+use mathlib.Core.Path.{sym, ap}
 use Rattle.def_model.specs.Answers.{refusal-number}
 
 pub refusal-number-spec : {M : Type 1} → statement M
@@ -26,18 +27,20 @@ refusal-number-spec =
     (λ c. search needs)
     (λ c. search needs)
     (λ c. search needs)
-    (λ c. search needs)
-    (λ c. search needs)
-    (λ c. search needs)
-    (λ c. search needs)
-    (λ c. search needs)
-    (λ c. search needs)
-    (λ c. search needs)
-    (λ c. search needs)
-    (λ c. search needs)
-    (λ c. search needs)
-    (λ c. search needs)
-    (λ c. search needs)
-    (λ c. search needs)
-    (λ c. search needs)
-    (λ c. search needs))
+    (λ c. sym (ap refusal-number (c .enum-told .given .1)))
+    (λ c. sym (ap refusal-number (c .enum-told2 .given .1)))
+    (λ c. sym (ap refusal-number (c .enum-told3 .given .1)))
+    (λ c. sym (ap refusal-number (c .enum-told4 .given .1)))
+    (λ c. sym (ap refusal-number (c .enum-told5 .given .1)))
+    (λ c. sym (ap refusal-number (c .enum-told6 .given .1)))
+    (λ c. sym (ap refusal-number (c .enum-told7 .given .1)))
+    (λ c. sym (ap refusal-number (c .enum-told8 .given .1)))
+    (λ c. sym (ap refusal-number (c .enum-told9 .given .1)))
+    (λ c. sym (ap refusal-number (c .enum-told10 .given .1)))
+    (λ c. sym (ap refusal-number (c .enum-told11 .given .1)))
+    (λ c. sym (ap refusal-number (c .enum-told12 .given .1)))
+    (λ c. sym (ap refusal-number (c .enum-told13 .given .1)))
+    (λ c. sym (ap refusal-number (c .enum-told14 .given .1)))
+    (λ c. sym (ap refusal-number (c .enum-told15 .given .1)))
+    (λ c. sym (ap refusal-number (c .enum-told16 .given .1)))
+    (λ c. sym (ap refusal-number (c .enum-told17 .given .1))))

@@ -4,12 +4,15 @@ use mathlib.Core.Path.{_≡_}
 use mathlib.Core.Logic.{_≢_}
 use mathlib.Core.Option.{Option, none, some}
 use mathlib.Core.Bool.{Bool, true, false, _&&_}
+use mathlib.Core.List.{List, [], _∷_}
 use native.Mathlib.Omega.{arith}
 use lib.Dec.{ltb, eqb}
-use Rattle.def_base.specs.Tests.{Case, yes!, no!, case, true-eq, and-true, neq-false}
+use Rattle.def_base.specs.Tests.{pick, Case, yes!, no!, case, true-eq, and-true, neq-false}
 use Rattle.def_layout.specs.declared.Entry.{Entry}
 use Rattle.def_layout.specs.Records.{Kind, split, link, unlink, merge, redistribute, raise, lower, Rec}
 use Rattle.def_model.specs.TreeRules.{free-pages}
+use Rattle.def_model.specs.Batches.{Line, next-undo}
+use Rattle.def_model.specs.Undo.{undo-line, undo-above}
 use Rattle.def_model.specs.Update.{Run, going, stopped, emit-by, emit, fresh, taking-by, emit-taking, split-page, room-by, make-room, link-child, Pair, linked-by, direct-by, direct-for, direct, raise-by, raise-root, descend-add, find-add, join-by, join, link-after-by, link-after, unlink-join, join-left, join-by-entry, restock, refind, stocked-by, stocked, lower-root, lone, step-by, descend-remove}
 
 -- The kinds that change the tree and belong to no batch: 01's 9 to 15.
@@ -157,3 +160,13 @@ halt-by r q s h = halt-emit r s h
 
 pub halt-stop : (s : Run) → s .stop ≡ 0 → Halt s → Halt (stopped 18 s)
 halt-stop s z h = absurd (h .stuck z)
+
+-- What undoing a line keeps, a return keeps.
+pub keep-above : (P : Run → Type 0) (n : ℕ) → ((next : ℕ) (l : Line) (s : Run) → P s → P (undo-line n next l s)) → (mark : ℕ) (ls : List Line) (s : Run) → P s → P (undo-above mark n ls s)
+unfolding undo-above
+keep-above P n k mark [] s h = h
+keep-above P n k mark (l ∷ ls) s h = go (ltb mark (l .number)) (keep-above P n k mark ls (undo-line n (next-undo ls) l s) (k (next-undo ls) l s h))
+  where
+    go : (b : Bool) → P (undo-above mark n ls (undo-line n (next-undo ls) l s)) → P (pick b (undo-above mark n ls (undo-line n (next-undo ls) l s)) s)
+    go true i = i
+    go false i = h

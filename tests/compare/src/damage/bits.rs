@@ -68,7 +68,7 @@ fn try_bit(
 }
 
 /// The calls that ask for sound areas, with numbers for which the roomy register, undamaged, does them.
-pub fn sound_calls(busy: &Busy) -> [Call; 8] {
+pub fn sound_calls(busy: &Busy) -> [Call; 10] {
     let (batch, other) = (busy.first, busy.second);
     let calls = [
         Call::Begin,
@@ -78,6 +78,8 @@ pub fn sound_calls(busy: &Busy) -> [Call; 8] {
         Call::Delete { batch: other, key: 80 },
         Call::Commit { batch },
         Call::Abort { batch: other },
+        Call::Mark { batch },
+        Call::Return { batch: other, mark: other },
         Call::WriteOut { page: 1 },
     ];
     let refused = calls.iter().find(|call| busy.register.outcome_of(**call).answer.is_err());

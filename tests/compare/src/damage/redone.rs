@@ -8,7 +8,8 @@ use reference::bench::any::any_call;
 use reference::bench::forge::forge_image;
 use reference::bench::{run, Instrument, Random, Shape};
 use reference::calls::{redo_alone, Call};
-use reference::layout::{Areas, Desk, Pages};
+use reference::layout::{Areas, Desk, Pages, Record};
+use reference::sizes::SLOT_BYTES;
 use reference::tree::slides_of;
 
 /// How many calls each register gets.
@@ -68,6 +69,14 @@ fn redone(image: &Areas) -> Option<(Areas, Desk)> {
     Some((areas, work.open.desk(stored, stored)))
 }
 
+/// Mostly one of the batch's records.
+fn some_mark(random: &mut Random, areas: &Areas, batch: u32) -> u32 {
+    let records = areas.working_log.chunks_exact(SLOT_BYTES).filter_map(Record::read);
+    let its_own: Vec<u32> = records.filter(|record| record.batch == batch).map(|record| record.own).collect();
+    let number = random.pick(&its_own).unwrap_or_default();
+    number.wrapping_add([0, 0, 0, 1, u32::MAX][random.below(5)])
+}
+
 /// Mostly by a batch that is open, on a key that is there.
 fn some_call(random: &mut Random, areas: &Areas, desk: &Desk) -> Call {
     let open: Vec<u32> = desk.rows.iter().map(|row| row.batch).filter(|batch| *batch != 0).collect();
@@ -76,14 +85,16 @@ fn some_call(random: &mut Random, areas: &Areas, desk: &Desk) -> Call {
         return if random.once_in(4) { any_call(random) } else { Call::Begin };
     };
     let key = slide.key.wrapping_add([0, 1, u32::MAX][random.below(3)]);
-    match random.below(9) {
+    match random.below(12) {
         0 => Call::Fetch { batch, key },
         1 => Call::Next { batch, key },
         2 | 3 => Call::Insert { batch, key, value: random.number() },
         4 => Call::Delete { batch, key },
         5 => Call::Commit { batch },
         6 => Call::Abort { batch },
-        7 => Call::WriteOut { page: random.below(areas.page_count()) as u32 },
+        7 => Call::Mark { batch },
+        8 | 9 => Call::Return { batch, mark: some_mark(random, areas, batch) },
+        10 => Call::WriteOut { page: random.below(areas.page_count()) as u32 },
         _ => Call::Begin,
     }
 }

@@ -30,16 +30,25 @@ fn edge_call(random: &mut Random, areas: &Areas, desk: &Desk) -> Call {
         return Call::Begin;
     };
     let key = edge_key(random, areas);
-    match random.below(20) {
+    match random.below(23) {
         0..=3 => Call::Fetch { batch, key },
         4..=6 => Call::Next { batch, key },
         7..=11 => Call::Insert { batch, key, value: random.number() },
         12..=15 => Call::Delete { batch, key },
         16 => Call::Commit { batch },
         17 => Call::Abort { batch },
-        18 => Call::WriteOut { page: random.below(areas.page_count()) as u32 },
+        18 | 19 => Call::Return { batch, mark: edge_mark(random, desk, batch) },
+        20 => Call::Mark { batch },
+        21 => Call::WriteOut { page: random.below(areas.page_count()) as u32 },
         _ => Call::Begin,
     }
+}
+
+/// The batch's begin and last record, what it would undo first, and around these.
+fn edge_mark(random: &mut Random, desk: &Desk, batch: u32) -> u32 {
+    let row = desk.rows.iter().find(|row| row.batch == batch).copied().unwrap_or_default();
+    let mark = [batch, row.last, row.next_to_undo, row.next_to_undo][random.below(4)];
+    mark.wrapping_add([0, 0, 1, TOP][random.below(4)])
 }
 
 fn edge_key(random: &mut Random, areas: &Areas) -> u32 {

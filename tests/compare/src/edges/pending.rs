@@ -72,6 +72,8 @@ fn other_calls(beside: &mut Beside, work: &Work) -> Result<(), Difference> {
         Call::Delete { batch, key: 10_000 },
         Call::Commit { batch },
         Call::Abort { batch },
+        Call::Mark { batch },
+        Call::Return { batch, mark: batch },
         Call::Restart,
     ];
     for made in calls {

@@ -87,6 +87,8 @@ fn all_calls(
         Call::Next { batch, key: u32::MAX - 1 },
         Call::Commit { batch },
         Call::Abort { batch },
+        Call::Mark { batch },
+        Call::Return { batch, mark: batch },
         Call::WriteOut { page: pages as u32 - 1 },
         Call::WriteOut { page: pages as u32 },
     ];

@@ -41,6 +41,8 @@ fn prepared(thread: u32) -> Prepared {
         Call::Delete { batch, key },
         Call::Commit { batch },
         Call::Abort { batch },
+        Call::Mark { batch },
+        Call::Return { batch, mark: batch },
         Call::WriteOut { page: 1 + thread },
         Call::Restart,
     ];

@@ -7,7 +7,7 @@ use crate::sizes::{DESK_NUMBERS, FEWEST_PAGES, FEWEST_SLOTS, MOST_PAGES, MOST_SL
 
 pub fn any_call(random: &mut Random) -> Call {
     let (batch, key, value) = (random.below(40) as u32, [0, random.number()][random.below(2)], random.number());
-    match random.below(10) {
+    match random.below(12) {
         0 => Call::Format,
         1 => Call::Begin,
         2 => Call::Fetch { batch, key },
@@ -16,7 +16,9 @@ pub fn any_call(random: &mut Random) -> Call {
         5 => Call::Delete { batch, key },
         6 => Call::Commit { batch },
         7 => Call::Abort { batch },
-        8 => Call::WriteOut { page: random.below(60) as u32 },
+        8 => Call::Mark { batch },
+        9 => Call::Return { batch, mark: random.below(40) as u32 },
+        10 => Call::WriteOut { page: random.below(60) as u32 },
         _ => Call::Restart,
     }
 }

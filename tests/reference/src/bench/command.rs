@@ -1,7 +1,8 @@
-//! The commands of the vectors: lend, cut, damage, and the ten calls.
+//! The commands of the vectors: lend, cut, damage, and the twelve calls.
 
 use super::line::read_line;
 use crate::calls::Call;
+use crate::sizes::DESK_NUMBERS;
 use std::fmt;
 
 #[derive(Clone, Copy, Debug, PartialEq, Eq)]
@@ -16,6 +17,11 @@ pub enum Command {
         byte: usize,
         bits: u8,
     },
+    /// Turn over bits of one of the desk's numbers.
+    DamageDesk {
+        number: usize,
+        bits: u32,
+    },
     Call(Call),
 }
 
@@ -28,17 +34,22 @@ impl Command {
             (b'P', [area @ 0..=3, byte, bits @ 0..=255]) => {
                 Some(Command::Damage { area: *area as usize, byte: *byte as usize, bits: *bits as u8 })
             }
-            (b'Z', []) => Some(Command::Call(Call::Format)),
-            (b'R', []) => Some(Command::Call(Call::Restart)),
-            _ => read_call(letter, &numbers).map(Command::Call),
+            (b'd', [number, bits]) if *number < DESK_NUMBERS as u64 => {
+                Some(Command::DamageDesk { number: *number as usize, bits: u32::try_from(*bits).ok()? })
+            }
+            _ => read_call(letter, &numbers).or_else(|| read_other_call(letter, &numbers)).map(Command::Call),
         }
     }
 }
 
-/// The calls that the console has too. None if a number does not fit 32 bits.
+/// None if a number does not fit 32 bits.
+fn of_32_bits(numbers: &[u64]) -> Option<Vec<u32>> {
+    numbers.iter().map(|number| u32::try_from(*number).ok()).collect()
+}
+
+/// The calls that the console has too.
 pub fn read_call(letter: u8, numbers: &[u64]) -> Option<Call> {
-    let numbers: Vec<u32> = numbers.iter().map(|number| u32::try_from(*number).ok()).collect::<Option<_>>()?;
-    match (letter, numbers.as_slice()) {
+    match (letter, of_32_bits(numbers)?.as_slice()) {
         (b'B', []) => Some(Call::Begin),
         (b'I', &[batch, key, value]) => Some(Call::Insert { batch, key, value }),
         (b'D', &[batch, key]) => Some(Call::Delete { batch, key }),
@@ -47,6 +58,16 @@ pub fn read_call(letter: u8, numbers: &[u64]) -> Option<Call> {
         (b'C', &[batch]) => Some(Call::Commit { batch }),
         (b'A', &[batch]) => Some(Call::Abort { batch }),
         (b'W', &[page]) => Some(Call::WriteOut { page }),
+        _ => None,
+    }
+}
+
+fn read_other_call(letter: u8, numbers: &[u64]) -> Option<Call> {
+    match (letter, of_32_bits(numbers)?.as_slice()) {
+        (b'Z', []) => Some(Call::Format),
+        (b'R', []) => Some(Call::Restart),
+        (b'M', &[batch]) => Some(Call::Mark { batch }),
+        (b'T', &[batch, mark]) => Some(Call::Return { batch, mark }),
         _ => None,
     }
 }
@@ -61,6 +82,8 @@ pub fn letter_of(call: &Call) -> char {
         Call::Delete { .. } => 'D',
         Call::Commit { .. } => 'C',
         Call::Abort { .. } => 'A',
+        Call::Mark { .. } => 'M',
+        Call::Return { .. } => 'T',
         Call::WriteOut { .. } => 'W',
         Call::Restart => 'R',
     }
@@ -72,6 +95,7 @@ impl fmt::Display for Command {
             Command::Lend([p, q, s, t]) => write!(to, "L {p} {q} {s} {t}"),
             Command::Cut(stores) => write!(to, "K {stores}"),
             Command::Damage { area, byte, bits } => write!(to, "P {area} {byte} {bits}"),
+            Command::DamageDesk { number, bits } => write!(to, "d {number} {bits}"),
             Command::Call(call) => {
                 write!(to, "{}", letter_of(call))?;
                 match call {
@@ -80,7 +104,8 @@ impl fmt::Display for Command {
                     Call::Fetch { batch, key } | Call::Next { batch, key } | Call::Delete { batch, key } => {
                         write!(to, " {batch} {key}")
                     }
-                    Call::Commit { batch } | Call::Abort { batch } => write!(to, " {batch}"),
+                    Call::Commit { batch } | Call::Abort { batch } | Call::Mark { batch } => write!(to, " {batch}"),
+                    Call::Return { batch, mark } => write!(to, " {batch} {mark}"),
                     Call::WriteOut { page } => write!(to, " {page}"),
                 }
             }

@@ -55,6 +55,7 @@ impl Instrument {
             Command::Lend(lengths) => self.lend(lengths),
             Command::Cut(stores) => self.cut = Some(stores),
             Command::Damage { area, byte, bits } => self.damage(area, byte, bits),
+            Command::DamageDesk { number, bits } => self.damage_desk(number, bits),
             Command::Call(call) => return Some(self.make(call)),
         }
         None
@@ -104,6 +105,12 @@ impl Instrument {
         if let Some(byte) = self.areas.each_mut()[area].get_mut(byte) {
             *byte ^= bits;
         }
+    }
+
+    fn damage_desk(&mut self, number: usize, bits: u32) {
+        let mut numbers = self.desk.numbers();
+        numbers[number] ^= bits;
+        self.desk = Desk::of_numbers(numbers);
     }
 }
 

@@ -1,5 +1,5 @@
 //! What the tests need around the calls: an instrument with a plug to pull, the vector and console formats, random
-//! traces, and 01's plain book.
+//! traces, and the plain book of 01 and 02.
 
 pub mod any;
 mod book;

@@ -55,8 +55,7 @@ pub fn answer_of(event: &Event) -> String {
 pub fn numbers_of(answer: Result<Answer, Refusal>) -> String {
     match answer {
         Ok(Answer::Done) => "0".to_string(),
-        Ok(Answer::Batch(batch)) => format!("0 {batch}"),
-        Ok(Answer::Value(value)) => format!("0 {value}"),
+        Ok(Answer::Batch(number) | Answer::Mark(number) | Answer::Value(number)) => format!("0 {number}"),
         Ok(Answer::Slide { key, value }) => format!("0 {key} {value}"),
         Ok(Answer::Restarted { ended, changes }) => format!("0 {ended} {changes}"),
         Err(refusal) => refusal.number().to_string(),

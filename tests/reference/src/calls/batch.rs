@@ -15,7 +15,7 @@ pub fn ask_lengths(areas: &Areas) -> Result<(), Refusal> {
     }
 }
 
-/// Checks 1, 11 and 12 for a call that only looks.
+/// Checks 1, 11 and 12 for a call that only looks, or only undoes.
 pub fn enter_to_read(areas: &Areas, desk: &Desk, batch: u32) -> Result<Sound, Refusal> {
     ask_lengths(areas)?;
     let sound = sound(areas, desk).ok_or(Refusal::Unsound)?;
@@ -25,8 +25,8 @@ pub fn enter_to_read(areas: &Areas, desk: &Desk, batch: u32) -> Result<Sound, Re
     Ok(sound)
 }
 
-/// The same for a call that writes. No call leaves a batch open that has its abort mark, but sound areas may hold one,
-/// and the chain then forbids what the call would write.
+/// The same for a call that writes records other than undos. No call leaves a batch open that has its abort mark, but
+/// sound areas may hold one, and the chain then forbids what the call would write.
 pub fn enter_to_write(areas: &Areas, desk: &Desk, batch: u32) -> Result<Sound, Refusal> {
     let sound = enter_to_read(areas, desk, batch)?;
     let marked = sound.work.open.find(batch).is_some_and(|open| open.marked);

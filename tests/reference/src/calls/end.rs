@@ -2,7 +2,7 @@
 
 use super::batch::enter_to_write;
 use super::outcome::store_records;
-use super::undo::undo_newest;
+use super::undo::undo_above;
 use super::{Answer, Outcome};
 use crate::layout::{Areas, Desk, Kind};
 use crate::log::Work;
@@ -35,15 +35,13 @@ pub fn abort(areas: &Areas, desk: &Desk, batch: u32) -> Outcome {
 
 fn try_abort(areas: &Areas, desk: &Desk, batch: u32) -> Result<Work, Refusal> {
     let mut work = enter_to_write(areas, desk, batch)?.work;
-    take_back(&mut work, batch).map_err(|_| Refusal::AbortShort)?;
+    take_back(&mut work, batch).map_err(|_| Refusal::UndoShort)?;
     Ok(work)
 }
 
 /// Undo all that an open batch has pending, and end it.
 pub fn take_back(work: &mut Work, batch: u32) -> Result<(), Refusal> {
     work.write_about_batch(Kind::AbortMark, batch)?;
-    while let Some(newest) = work.open.find(batch).and_then(|open| open.pending.last().copied()) {
-        undo_newest(work, batch, newest)?;
-    }
+    undo_above(work, batch, 0)?;
     work.write_about_batch(Kind::End, batch)
 }

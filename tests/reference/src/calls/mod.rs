@@ -1,9 +1,10 @@
-//! The ten calls, each a function from areas and desk to an outcome. Checks go in the order of the refusals' numbers.
+//! The twelve calls, each a function from areas and desk to an outcome. Checks go in the order of the refusals' numbers.
 
 mod batch;
 mod begin;
 mod end;
 mod format;
+mod marks;
 mod outcome;
 mod read;
 mod restart;
@@ -16,6 +17,7 @@ pub use end::take_back;
 pub use outcome::{Answer, Outcome};
 pub use restart::{redo_alone, try_restart, Restarted};
 pub use sound::{pages_suffice, slots_suffice, sound, Sound};
+pub use undo::undo_above;
 pub use update::write_update;
 
 pub(crate) use undo::undo_newest;
@@ -33,6 +35,8 @@ pub enum Call {
     Delete { batch: u32, key: u32 },
     Commit { batch: u32 },
     Abort { batch: u32 },
+    Mark { batch: u32 },
+    Return { batch: u32, mark: u32 },
     WriteOut { page: u32 },
     Restart,
 }
@@ -48,6 +52,8 @@ pub fn call(areas: &Areas, desk: &Desk, call: Call) -> Outcome {
         Call::Delete { batch, key } => update::delete(areas, desk, batch, key),
         Call::Commit { batch } => end::commit(areas, desk, batch),
         Call::Abort { batch } => end::abort(areas, desk, batch),
+        Call::Mark { batch } => marks::mark(areas, desk, batch),
+        Call::Return { batch, mark } => marks::return_to(areas, desk, batch, mark),
         Call::WriteOut { page } => write_out::write_out(areas, desk, page),
         Call::Restart => restart::restart(areas),
     }

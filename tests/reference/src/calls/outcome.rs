@@ -8,6 +8,7 @@ use crate::Refusal;
 pub enum Answer {
     Done,
     Batch(u32),
+    Mark(u32),
     Value(u32),
     Slide { key: u32, value: u32 },
     Restarted { ended: u32, changes: u32 },

@@ -1,9 +1,22 @@
-//! Undo of one pending update, always from the root: the key may long have moved from the page named in the record.
+//! Undo of pending updates, newest first, always from the root: the key may long have moved from the page named in the
+//! record.
 
 use crate::layout::{Kind, Record};
 use crate::log::{Update, Work};
 use crate::tree::{go_down, Purpose};
 use crate::Refusal;
+
+/// Undo an open batch's pending updates with a number above the mark. An abort undoes all of them: its mark is 0.
+pub fn undo_above(work: &mut Work, batch: u32, mark: u32) -> Result<(), Refusal> {
+    while let Some(newest) = newest_pending(work, batch).filter(|newest| newest.number > mark) {
+        undo_newest(work, batch, newest)?;
+    }
+    Ok(())
+}
+
+fn newest_pending(work: &Work, batch: u32) -> Option<Update> {
+    work.open.find(batch)?.pending.last().copied()
+}
 
 /// Undo the newest pending update of an open batch that has one.
 pub fn undo_newest(work: &mut Work, batch: u32, newest: Update) -> Result<(), Refusal> {

@@ -26,6 +26,11 @@ impl Desk {
         Desk::default()
     }
 
+    /// The last record of an open batch. Batch 0 is never open, though unused rows hold 0.
+    pub fn last_of(&self, batch: u32) -> Option<u32> {
+        self.rows.iter().find(|row| row.batch == batch && batch != 0).map(|row| row.last)
+    }
+
     pub fn of_numbers(numbers: [u32; DESK_NUMBERS]) -> Desk {
         let mut desk = Desk::empty();
         for (row, part) in desk.rows.iter_mut().zip(numbers.chunks_exact(4)) {

@@ -18,10 +18,11 @@ pub fn cross_batches(maker: &mut Maker) {
     let pending = (0..PENDING).all(|_| update_near(maker, first, from, thin_out));
     let _ = pending && (0..AROUND).all(|_| update_near(maker, second, from, !thin_out));
     maker.make(Call::Commit { batch: second });
-    match maker.random.below(4) {
+    match maker.random.below(5) {
         0 => drop(maker.make(Call::Abort { batch: first })),
-        1 => trouble::cut_at_rest(maker),
-        2 => {
+        1 => drop(maker.make(Call::Return { batch: first, mark: first })),
+        2 => trouble::cut_at_rest(maker),
+        3 => {
             trouble::cut_at_rest(maker);
             trouble::wear_out(maker);
         }
@@ -38,7 +39,7 @@ pub fn begin(maker: &mut Maker) -> Option<u32> {
 
 /// Put in the next key above that is not there, or take out the next one above that is; held ones aside, and key 0, which
 /// is not put in. False if there is none, or no room.
-fn update_near(maker: &mut Maker, batch: u32, from: u32, put_in: bool) -> bool {
+pub fn update_near(maker: &mut Maker, batch: u32, from: u32, put_in: bool) -> bool {
     let Some(sound) = &maker.sound else {
         return false;
     };

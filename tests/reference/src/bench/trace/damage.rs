@@ -1,12 +1,17 @@
-//! Damage in a trace: bits are turned or the stored image is forged, some calls meet that, and it is put right again.
+//! Damage in a trace: bits are turned or the stored image is forged, some calls meet that, and it is put right again. Or
+//! it is the desk that is damaged, which a restart makes anew.
 
 use super::maker::Maker;
 use crate::bench::forge::{forge_image, turn_a_bit};
 use crate::bench::Command;
 use crate::calls::Call;
 use crate::layout::Areas;
+use crate::sizes::DESK_NUMBERS;
 
 pub fn damage(maker: &mut Maker) {
+    if maker.random.once_in(8) {
+        return damage_desk(maker);
+    }
     let areas = &maker.instrument.areas;
     let mut damaged = areas.clone();
     if maker.random.once_in(3) {
@@ -28,6 +33,16 @@ pub fn damage(maker: &mut Maker) {
     }
 }
 
+fn damage_desk(maker: &mut Maker) {
+    let batch = maker.some_batch().unwrap_or_default();
+    let (number, bits) = (maker.random.below(DESK_NUMBERS), 1 << maker.random.below(12));
+    maker.run_all(&[Command::DamageDesk { number, bits }]);
+    let calls = [Call::Begin, Call::Commit { batch }, Call::Mark { batch }, Call::Return { batch, mark: batch }];
+    let made = calls[maker.random.below(calls.len())];
+    maker.make(made);
+    maker.make(Call::Restart);
+}
+
 fn some_calls(maker: &mut Maker) {
     let page = maker.random.below(maker.page_count()) as u32;
     maker.make(Call::Begin);
@@ -35,6 +50,8 @@ fn some_calls(maker: &mut Maker) {
         let key = maker.keys.any(&mut maker.random);
         maker.make(Call::Next { batch, key });
         maker.make(Call::Insert { batch, key, value: 4 });
+        maker.make(Call::Mark { batch });
+        maker.make(Call::Return { batch, mark: batch });
         maker.make(Call::Commit { batch });
     }
     maker.make(Call::WriteOut { page });

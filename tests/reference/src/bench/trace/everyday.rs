@@ -1,6 +1,7 @@
 //! The calls of a working instrument, and now and then something else.
 
 use super::maker::Maker;
+use super::trays::tray_call;
 use super::trouble;
 use crate::calls::Call;
 use crate::log::page_changes;
@@ -22,7 +23,8 @@ fn everyday(maker: &mut Maker) {
         share if share < maker.temper.begins && maker.batches().len() < maker.temper.wanted_open => {
             maker.make(Call::Begin);
         }
-        0..=76 => drop(update_call(maker).map(|call| maker.make(call))),
+        0..=69 => drop(update_call(maker).map(|call| maker.make(call))),
+        70..=76 => drop(tray_call(maker).map(|call| maker.make(call))),
         77..=81 => end_batch(maker),
         82..=89 => drop(read_call(maker).map(|call| maker.make(call))),
         _ => write_out_some(maker),

@@ -4,7 +4,7 @@ use super::keys::Keys;
 use super::temper::{Shape, Temper};
 use crate::bench::instrument::lengths;
 use crate::bench::{Command, Event, Instrument, Random};
-use crate::calls::{pages_suffice, slots_suffice, sound, Call, Sound};
+use crate::calls::{pages_suffice, slots_suffice, sound, Answer, Call, Sound};
 use crate::layout::{Kind, Record, Store};
 use crate::log::Batch;
 use crate::sizes::{BATCH_RECORDS, UPDATE_PAGES, UPDATE_RECORDS};
@@ -15,17 +15,19 @@ pub struct Maker {
     /// The working areas taken apart, where they are sound.
     pub sound: Option<Sound>,
     pub commands: Vec<Command>,
+    /// The marks that were answered, each with its batch; also those of batches that have ended.
+    pub marks: Vec<(u32, u32)>,
     pub calls_left: usize,
     pub keys: Keys,
     pub temper: Temper,
 }
 
-/// A fetch or next changes nothing, and neither does a refusal but for formats and restarts.
+/// A call that only looks changes nothing, and neither does a refusal but for formats and restarts.
 fn may_have_changed(event: &Event) -> bool {
     match event.call {
         _ if event.was_cut => true,
         Call::Format | Call::Restart => true,
-        Call::Fetch { .. } | Call::Next { .. } => false,
+        Call::Fetch { .. } | Call::Next { .. } | Call::Mark { .. } => false,
         _ => event.answer.is_ok(),
     }
 }
@@ -43,8 +45,16 @@ impl Maker {
     pub fn new(mut random: Random, calls: usize, shape: Shape) -> Maker {
         let temper = Temper::new(&mut random, shape);
         let keys = Keys::new(&mut random, temper.most_pages, temper.ends);
-        let instrument = Instrument::default();
-        Maker { random, instrument, sound: None, commands: Vec::new(), calls_left: calls, keys, temper }
+        Maker {
+            random,
+            instrument: Instrument::default(),
+            sound: None,
+            commands: Vec::new(),
+            marks: Vec::new(),
+            calls_left: calls,
+            keys,
+            temper,
+        }
     }
 
     /// Go on from a register that is there already.
@@ -59,6 +69,9 @@ impl Maker {
         let event = self.instrument.make(call);
         if may_have_changed(&event) {
             self.look();
+        }
+        if let (Call::Mark { batch }, Some(Answer::Mark(mark))) = (call, event.finished()) {
+            self.marks.push((batch, mark));
         }
         event
     }

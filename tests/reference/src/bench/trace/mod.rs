@@ -1,8 +1,8 @@
 //! Random runs in the vectors' format, the same for the same seed.
 //!
 //! The maker runs the model beside what it writes, so that its batches, keys and pages are mostly ones that exist. Trees
-//! grow and shrink again, several batches are open at once, calls are refused on purpose, power fails at every kind of
-//! store and in restarts, and the areas grow.
+//! grow and shrink again, several batches are open at once and take back what they did after a mark, calls are refused on
+//! purpose, power fails at every kind of store and in restarts, and the areas grow.
 
 mod aged;
 mod beside;
@@ -13,6 +13,7 @@ mod field;
 mod keys;
 mod maker;
 mod temper;
+mod trays;
 mod trouble;
 
 pub use temper::Shape;

@@ -4,6 +4,7 @@ use super::beside::split_beside_a_thin_leaf;
 use super::crossing::{begin, cross_batches};
 use super::everyday::{end_call, read_call, update_call, write_out_call};
 use super::maker::{stores_of, Maker};
+use super::trays::{some_trays, tray_call, wrong_mark_call};
 use crate::calls::Call;
 use crate::layout::Kind;
 use crate::log::is_empty_slot;
@@ -33,9 +34,10 @@ pub fn first_format(maker: &mut Maker) {
 pub fn some_trouble(maker: &mut Maker) {
     match maker.random.below(100) {
         0..=29 => cut_some_call(maker),
-        30..=59 => refused_on_purpose(maker),
-        60..=74 => cross_batches(maker),
-        75..=84 => split_beside_a_thin_leaf(maker),
+        30..=54 => refused_on_purpose(maker),
+        55..=66 => cross_batches(maker),
+        67..=77 => some_trays(maker),
+        78..=84 => split_beside_a_thin_leaf(maker),
         85..=89 => grow(maker),
         90..=92 => uneven_areas(maker),
         93..=95 => drop(maker.make(Call::Restart)),
@@ -45,11 +47,12 @@ pub fn some_trouble(maker: &mut Maker) {
 
 /// Cut a call of any kind, mostly one that stores.
 fn cut_some_call(maker: &mut Maker) {
-    let call = match maker.random.below(10) {
+    let call = match maker.random.below(11) {
         0..=3 => end_call(maker),
         4..=6 => write_out_call(maker),
         7 => update_call(maker),
         8 => read_call(maker),
+        9 => tray_call(maker),
         _ => Some(Call::Restart),
     };
     if let Some(call) = call {
@@ -183,7 +186,7 @@ fn cut_format(maker: &mut Maker) {
 fn senseless_call(maker: &mut Maker) -> Call {
     let (batch, key, value) = (wrong_batch(maker), maker.random.number(), maker.random.number());
     let key = [0, key][maker.random.below(2)];
-    match maker.random.below(10) {
+    match maker.random.below(12) {
         0 => Call::Begin,
         1 => Call::Fetch { batch, key },
         2 => Call::Next { batch, key },
@@ -192,8 +195,10 @@ fn senseless_call(maker: &mut Maker) -> Call {
         5 => Call::Commit { batch },
         6 => Call::Abort { batch },
         7 => Call::WriteOut { page: maker.random.below(900) as u32 },
+        8 => Call::Mark { batch },
+        9 => Call::Return { batch, mark: key },
         // Away from sound areas this is refused where the lengths are wrong, and else it is one more formatting.
-        8 if !maker.instrument.areas.lengths_are_right() => Call::Format,
+        10 if !maker.instrument.areas.lengths_are_right() => Call::Format,
         _ => Call::WriteOut { page: maker.random.number() },
     }
 }
@@ -204,10 +209,11 @@ fn wrong_batch(maker: &mut Maker) -> u32 {
 }
 
 fn refused_on_purpose(maker: &mut Maker) {
-    let call = match maker.random.below(5) {
-        0 => wrong_batch_call(maker),
-        1 | 2 => held_key_call(maker),
-        3 => key_of_the_wrong_kind(maker),
+    let call = match maker.random.below(7) {
+        0 | 1 => wrong_batch_call(maker),
+        2 | 3 => held_key_call(maker),
+        4 => key_of_the_wrong_kind(maker),
+        5 => wrong_mark_call(maker),
         _ => Some(Call::WriteOut { page: (maker.page_count() + maker.random.below(4)) as u32 }),
     };
     if let Some(call) = call {
@@ -226,6 +232,9 @@ fn wrong_batch_call(maker: &mut Maker) -> Option<Call> {
         Call::Delete { batch, key },
         Call::Commit { batch },
         Call::Abort { batch },
+        Call::Mark { batch },
+        Call::Return { batch, mark: batch },
+        Call::Return { batch, mark: key },
     ];
     maker.random.pick(&calls)
 }
