@@ -1,7 +1,8 @@
 /* One call and one pass of each kind, for counting instructions.
  *
  *   counted stage IMAGE LETTER SCENE   stages the call on a full log, at full speed; P is a fetch with many updates pending, and Q a return
- *                                      of many, on any log, and O a restart with every page written out just before
+ *                                      of many, on any log, O a load of as many slides as fit, and V a restart with
+ *                                      every page written out just before
  *   counted run SCENE                  the passes and the call, each once: what is counted is chosen by its function's name
  */
 #include "pass.h"
@@ -17,9 +18,11 @@ static int stage_file(const char *image, char letter, const char *to)
         stage_pending(&scene);
     else if (letter == 'Q')
         stage_return(&scene);
+    else if (letter == 'O')
+        stage_load(&scene);
     else
-        stage(&scene, letter == 'O' ? 'R' : letter, FULL);
-    if (letter == 'O')
+        stage(&scene, letter == 'V' ? 'R' : letter, FULL);
+    if (letter == 'V')
         write_out_all(&scene);
     save_scene(&scene, to);
     printf("%u %u\n", records(&scene), pending(&scene));

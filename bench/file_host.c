@@ -83,4 +83,4 @@ static void close_host(void *opened)
     free(opened);
 }
 
-const struct filer host_filer = { "example host", open_host, file, take_back, close_host, kept, "of that its stores" };
+const struct filer host_filer = { "example host", open_host, file, take_back, close_host, NULL, kept, "of that its stores" };

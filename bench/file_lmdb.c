@@ -1,4 +1,4 @@
-/* LMDB files a case: whole-number keys, a file that is mapped, flushed to the drive or not. */
+/* LMDB files a case, and loads slides: whole-number keys, a file that is mapped, flushed to the drive or not. */
 #include "filer.h"
 #include <lmdb.h>
 #include <stdio.h>
@@ -26,11 +26,11 @@ static MDB_txn *begin(struct opened *in)
     return txn;
 }
 
-static void insert(struct opened *in, MDB_txn *txn, uint32_t key)
+static void insert(struct opened *in, MDB_txn *txn, uint32_t key, unsigned flags)
 {
     uint32_t value = 7;
     MDB_val k = { sizeof key, &key }, v = { sizeof value, &value };
-    need(mdb_put(txn, in->slides, &k, &v, MDB_NOOVERWRITE));
+    need(mdb_put(txn, in->slides, &k, &v, flags));
 }
 
 /* MDB_NOSUBDIR: the path is the file itself, and the lock file stands beside it. */
@@ -55,7 +55,7 @@ static void *open_with(const struct scene *scene, const char *folder, unsigned f
     MDB_txn *txn = begin(in);
     need(mdb_dbi_open(txn, NULL, MDB_INTEGERKEY, &in->slides));
     for (uint32_t i = scene->oldest; i < scene->newest; i++)
-        insert(in, txn, key_of(i));
+        insert(in, txn, key_of(i), MDB_NOOVERWRITE);
     need(mdb_txn_commit(txn));
     return in;
 }
@@ -74,7 +74,16 @@ static void file(void *opened, const uint32_t keys[CASE_SLIDES])
 {
     MDB_txn *txn = begin(opened);
     for (int i = 0; i < CASE_SLIDES; i++)
-        insert(opened, txn, keys[i]);
+        insert(opened, txn, keys[i], MDB_NOOVERWRITE);
+    need(mdb_txn_commit(txn));
+}
+
+/* MDB_APPEND is its own way for keys that rise. */
+static void load(void *opened, const struct columns *of)
+{
+    MDB_txn *txn = begin(opened);
+    for (size_t i = 0; i < of->keys_length; i++)
+        insert(opened, txn, of->keys[i], MDB_APPEND);
     need(mdb_txn_commit(txn));
 }
 
@@ -96,5 +105,5 @@ static void close_lmdb(void *opened)
     free(opened);
 }
 
-const struct filer lmdb_filer = { "LMDB in a file", open_unflushed, file, take_back, close_lmdb, NULL, NULL };
-const struct filer lmdb_flushed = { "LMDB", open_flushed, file, take_back, close_lmdb, NULL, NULL };
+const struct filer lmdb_filer = { "LMDB in a file", open_unflushed, file, take_back, close_lmdb, load, NULL, NULL };
+const struct filer lmdb_flushed = { "LMDB", open_flushed, file, take_back, close_lmdb, load, NULL, NULL };

@@ -1,4 +1,4 @@
-/* The register files a case. */
+/* The register files a case, and loads slides. */
 #include "filer.h"
 #include <stdlib.h>
 
@@ -34,10 +34,17 @@ static void file(void *opened, const uint32_t keys[CASE_SLIDES])
     must(work, 'C', batch, 0, 0);
 }
 
+static void load(void *opened, const struct columns *of)
+{
+    struct scene *work = &((struct opened *)opened)->work;
+    work->in.columns = *of;
+    must(work, 'O', 0, 0, 0);
+}
+
 static void close_register(void *opened)
 {
     give_back(&((struct opened *)opened)->work.in);
     free(opened);
 }
 
-const struct filer register_filer = { "register", open_register, file, take_back, close_register, NULL, NULL };
+const struct filer register_filer = { "register", open_register, file, take_back, close_register, load, NULL, NULL };

@@ -1,4 +1,4 @@
-/* SQLite files a case: in memory or in a file, flushed to the drive or not. */
+/* SQLite files a case, and loads slides: in memory or in a file, flushed to the drive or not. */
 #include "filer.h"
 #include "sqlite_slides.h"
 #include <stdlib.h>
@@ -50,10 +50,10 @@ static void *open_ahead(const struct scene *scene, const char *folder)
 }
 
 /* One transaction, with one of the statements for each key. */
-static void each(struct opened *in, int which, const uint32_t keys[CASE_SLIDES])
+static void each(struct opened *in, int which, const uint32_t *keys, size_t count)
 {
     step(in, BEGIN);
-    for (int i = 0; i < CASE_SLIDES; i++) {
+    for (size_t i = 0; i < count; i++) {
         sqlite3_bind_int64(in->statements[which], 1, keys[i]);
         step(in, which);
     }
@@ -62,12 +62,17 @@ static void each(struct opened *in, int which, const uint32_t keys[CASE_SLIDES])
 
 static void file(void *opened, const uint32_t keys[CASE_SLIDES])
 {
-    each(opened, INSERT, keys);
+    each(opened, INSERT, keys, CASE_SLIDES);
 }
 
 static void take_back(void *opened, const uint32_t keys[CASE_SLIDES])
 {
-    each(opened, DELETE, keys);
+    each(opened, DELETE, keys, CASE_SLIDES);
+}
+
+static void load(void *opened, const struct columns *of)
+{
+    each(opened, INSERT, of->keys, of->keys_length);
 }
 
 static void close_base(void *opened)
@@ -79,7 +84,7 @@ static void close_base(void *opened)
     free(in);
 }
 
-const struct filer sqlite_in_memory = { "SQLite in memory", open_memory, file, take_back, close_base, NULL, NULL };
-const struct filer sqlite_in_file = { "SQLite in a file", open_file, file, take_back, close_base, NULL, NULL };
-const struct filer sqlite_rollback = { "SQLite, rollback journal", open_rollback, file, take_back, close_base, NULL, NULL };
-const struct filer sqlite_ahead = { "SQLite, write-ahead log", open_ahead, file, take_back, close_base, NULL, NULL };
+const struct filer sqlite_in_memory = { "SQLite in memory", open_memory, file, take_back, close_base, load, NULL, NULL };
+const struct filer sqlite_in_file = { "SQLite in a file", open_file, file, take_back, close_base, load, NULL, NULL };
+const struct filer sqlite_rollback = { "SQLite, rollback journal", open_rollback, file, take_back, close_base, load, NULL, NULL };
+const struct filer sqlite_ahead = { "SQLite, write-ahead log", open_ahead, file, take_back, close_base, load, NULL, NULL };

@@ -1,4 +1,4 @@
-/* What files a case of ten slides: the register, and databases that do the same work. */
+/* What files a case of ten slides, and loads many: the register, and databases that do the same work. */
 #ifndef FILER_H
 #define FILER_H
 
@@ -15,6 +15,8 @@ struct filer {
     /* Makes it as it was before the case. */
     void (*take_back)(void *opened, const uint32_t keys[CASE_SLIDES]);
     void (*close)(void *opened);
+    /* Loads slides by rising keys, where it was opened with none, as one transaction: this is timed. NULL where nothing does. */
+    void (*load)(void *opened, const struct columns *of);
     /* Microseconds of the last case that are shown beside it, and what took them. NULL where nothing is. */
     double (*part)(void);
     const char *part_name;

@@ -54,6 +54,16 @@ uint32_t must(struct scene *scene, char letter, uint32_t a, uint32_t b, uint32_t
     return donzhikar_value(scene->in.values, 0);
 }
 
+void lend_columns(struct scene *scene, uint32_t slides)
+{
+    static uint32_t keys[DONZHIKAR_MOST_LOADED], values[DONZHIKAR_MOST_LOADED];
+    for (uint32_t i = 0; i < DONZHIKAR_MOST_LOADED; i++) {
+        keys[i] = 5 * (i + 1);
+        values[i] = 7;
+    }
+    scene->in.columns = (struct columns){ keys, slides, values, slides };
+}
+
 void copy_scene(struct scene *to, const struct scene *from)
 {
     size_t lengths[AREAS];
@@ -64,6 +74,7 @@ void copy_scene(struct scene *to, const struct scene *from)
         memcpy(to->in.areas[i].bytes, from->in.areas[i].bytes, lengths[i]);
     memcpy(to->in.desk, from->in.desk, sizeof to->in.desk);
     memcpy(to->in.values, from->in.values, sizeof to->in.values);
+    to->in.columns = from->in.columns;
     to->oldest = from->oldest;
     to->newest = from->newest;
     to->next = from->next;
@@ -106,6 +117,8 @@ void load_scene(struct scene *scene, const char *path)
     scene->oldest = head[2];
     scene->newest = head[3];
     scene->next = (struct call){ (char)head[4], { head[5], head[6], head[7] } };
+    if (scene->next.letter == 'O')
+        lend_columns(scene, scene->next.numbers[0]);
 }
 
 void load_image(struct scene *scene, const char *folder, const char *page_count, const char *name)

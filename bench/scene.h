@@ -23,6 +23,9 @@ uint32_t pages(const struct scene *scene);
 /* Makes a call that must be done, or ends the program. Returns the answer's first value. */
 uint32_t must(struct scene *scene, char letter, uint32_t a, uint32_t b, uint32_t c);
 
+/* Lends so many slides for a load, by rising keys. Their values are those that a case's slides have. */
+void lend_columns(struct scene *scene, uint32_t slides);
+
 /* `to` becomes like `from`; its areas are lent anew where their lengths differ. */
 void copy_scene(struct scene *to, const struct scene *from);
 

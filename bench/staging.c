@@ -59,6 +59,19 @@ void stage_pending(struct scene *scene)
     file_all(scene, batches, OPEN);
 }
 
+/* Found by loading fewer, a slide at a time. */
+void stage_load(struct scene *scene)
+{
+    static struct scene tried;
+    uint32_t slides = DONZHIKAR_MOST_LOADED;
+    copy_scene(&tried, scene);
+    lend_columns(&tried, slides);
+    while (make(&tried.in, (struct call){ 'O', { 0, 0, 0 } }) == DONZHIKAR_ERROR_PAGES_SHORT)
+        lend_columns(&tried, --slides);
+    lend_columns(scene, slides);
+    scene->next = (struct call){ 'O', { slides, 0, 0 } };
+}
+
 /* A batch's own number is the mark from before all that it does. */
 static struct call return_of_all(uint32_t batch)
 {

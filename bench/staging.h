@@ -1,4 +1,5 @@
-/* The twelve calls, each staged on a register of committed cases: what must come before it, and its numbers. */
+/* The calls, each staged on a register of committed cases: what must come before it, and its numbers. Load stands by itself: what was there
+ * does not matter to it. */
 #ifndef STAGING_H
 #define STAGING_H
 
@@ -33,6 +34,9 @@ void write_out_all(struct scene *scene);
 
 /* A fetch while eight batches are open, with as many updates pending as the reserves allow. */
 void stage_pending(struct scene *scene);
+
+/* A load of as many slides as the pages take. Its first number says how many. */
+void stage_load(struct scene *scene);
 
 /* A return that takes back as many updates of one batch as the reserves allow. */
 void stage_return(struct scene *scene);

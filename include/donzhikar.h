@@ -8,11 +8,11 @@
  * header and a pkg-config file below PREFIX, and then `cc program.c $(pkg-config --cflags --libs donzhikar)` is all. It needs no other
  * library but the C library.
  *
- * PLATFORMS. This header is C99 and later, and C++11 and later. Nothing is asked of alignment: every area may stand at any address. All
- * numbers in the areas are bytes, most significant first, so an image that one machine wrote is read by any other. The library is made
- * for the machine that makes it; x86-64 Linux is what is tried.
+ * PLATFORMS. This header is C99 and later, and C++11 and later. Nothing is asked of alignment: every area may stand at any address. (Only
+ * load's columns are arrays of uint32_t.) All numbers in the areas are bytes, most significant first, so an image that one machine wrote is
+ * read by any other. The library is made for the machine that makes it; x86-64 Linux is what is tried.
  *
- * IN A HURRY: fill in a struct donzhikar and call the functions whose names end in _in, which stand at the end. They are the twelve
+ * IN A HURRY: fill in a struct donzhikar and call the functions whose names end in _in, which stand at the end. They are the thirteen
  * functions with one leading argument in place of six pointers and their lengths. There too: what is left (donzhikar_slots_left,
  * donzhikar_pages_left), what a refusal means in words (donzhikar_text), and the loops that everyone writes (donzhikar_list_in,
  * donzhikar_file_in, donzhikar_file_tray_in, donzhikar_come_back_in).
@@ -48,17 +48,17 @@
  *
  * A desk that is not 136 bytes long, or values that are not 8 bytes long: 1, whatever else is wrong. The four areas stay, and so does the
  * one of wrong length. The other is left as by any refusal: values of 8 bytes become zeros, a desk of 136 bytes stays, or becomes empty
- * by format and restart.
+ * by format, load and restart.
  *
  *
  * THE REASONS, AND WHAT EACH LEAVES
  *
- * The reasons are tried in the order of their numbers, but for return's 20, which is tried before 19, and for restart's 17 and 18, of which
- * the first that is met is given, 17 if both are met at once. Unless the table says otherwise a refused call leaves the four areas and the
- * desk exactly as they were.
+ * The reasons are tried in the order of their numbers, but for load's 8, which is tried before 7, for return's 20, which is tried before
+ * 19, and for restart's 17 and 18, of which the first that is met is given, 17 if both are met at once. Unless the table says otherwise a
+ * refused call leaves the four areas and the desk exactly as they were.
  *
  *    1  The areas' lengths are wrong, or those of a kind are unequal. Every call.
- *       Nothing changes in the areas; format and restart leave an empty desk (136 zeros), the others leave the desk.
+ *       Nothing changes in the areas; format, load and restart leave an empty desk (136 zeros), the others leave the desk.
  *    2  The page's number is not below the number of pages. Write-out. Nothing changes.
  *    3  A stable page breaks the layout of pages. Restart.
  *    4  A slot of the stable log breaks the layout of records, its number or its batch's chain, or names a page that is not lent; or
@@ -66,10 +66,14 @@
  *    5  A change that is to be redone meets a page that it does not start from. Restart.
  *    6  The pages, once redone, break the rules of the tree, or do not agree with the open batches' changes. Restart.
  *       3 to 6: both working areas become zeros, the desk becomes empty, the stable areas stay as they were. If a power failure cut a
- *       format, format again. Otherwise the stable areas were damaged: keep them as they are; docs/SERVICE.md says what can be brought back.
+ *       format or a load, do it again. Otherwise the stable areas were damaged: keep them as they are; docs/SERVICE.md says what can be
+ *       brought back.
  *    7  The key is 0, which stands for a label that could not be read. Insert, whatever the areas hold. Nothing changes. Slides that an
  *       earlier version filed under 0 are still fetched and deleted; next never finds one, as it looks above the key that it is given.
- *   11  The working areas or the desk are not sound: not what calls leave. Every call but format and restart. Nothing changes.
+ *       Load, if any of the keys is 0: the areas stay, the desk becomes empty.
+ *    8  The two columns differ in length. Load: the areas stay, the desk becomes empty.
+ *    9  The keys do not rise: one is not above the one before it. Load: as 8.
+ *   11  The working areas or the desk are not sound: not what calls leave. Every call but format, load and restart. Nothing changes.
  *       After a power failure this is the usual answer until restart has run, and not one to rely on: see COMING BACK.
  *   12  There is no such open batch. Fetch, next, insert, delete, mark, return, commit, abort. Nothing changes.
  *   13  Eight batches are open. Begin. Nothing changes.
@@ -79,15 +83,16 @@
  *   16  The key is absent; or, for next, no key is above the asked one. Fetch, next, delete. Nothing changes.
  *   17  Log slots are short. Begin, insert, delete: nothing changes.
  *       Restart: both working areas become zeros, the desk becomes empty, the stable areas stay as they were.
- *   18  Pages are short. Insert, delete: nothing changes. Restart: as 17.
+ *   18  Pages are short. Insert, delete: nothing changes. Restart: as 17. Load: as 8.
  *   19  An abort or a return ran out of slots or pages. The slots and pages that insert and delete insist on are those that both need, so no
  *       register that the calls themselves have built gives it. Abort, return. Nothing changes.
  *   20  The mark is not the number of a record of that batch. Return. Nothing changes.
  *
  * What is short, exactly: with u slots used, p changes pending in open batches and b batches open, begin needs u + 1 + 32p + 2(b + 1) at
  * most the number of slots; insert and delete need u + 32 + 32(p + 1) + 2b at most the number of slots, else 17, and 7 + 7(p + 1) free
- * pages, else 18. Slots are never given back: when the log is full, the slides have to be read out and filed in a newly formatted register.
- * The caller may lend longer areas (the added part all zero, working and stable alike) after any call, and before a restart.
+ * pages, else 18. Slots are never given back: when the log is full, the slides have to be read out and brought into a fresh register,
+ * loaded if they are at most 8,040 and none has key 0, else filed. The caller may lend longer areas (the added part all zero, working and
+ * stable alike) after any call, and before a restart.
  *
  *
  * HOW MUCH FITS
@@ -96,18 +101,32 @@
  * filed by rising keys here; tests/c/capacity.c measures the table, and a test holds it to this text. "full" counts the slides that are in
  * when the first begin or insert is refused.
  *
- *   pages x slots     uncommitted at a time    full, cases of 1    full, cases of 10
- *      16 x 64                           0                   0                    0
- *      16 x 128                          1                  15                    0
- *      64 x 160                          3                  30                    0
- *     256 x 1024                        29                 290                  440
- *     896 x 16384                      124                4900                 4920
+ *   pages x slots     uncommitted at a time    full, cases of 1    full, cases of 10    loaded once
+ *      16 x 64                           0                   0                    0            140
+ *      16 x 128                          1                  15                    0            140
+ *      64 x 160                          3                  30                    0            560
+ *     256 x 1024                        29                 290                  440           2280
+ *     896 x 16384                      124                4900                 4920           8040
  *
  * With 64 slots a register takes no insert at all: 67 are the fewest for one. A case larger than what may be uncommitted cannot be filed as
  * one: some 124 slides are the most, and fewer in a register that is filled. Reading needs a batch too, and a batch costs slots: its begin,
  * and its commit or its abort mark and end. A program that reads often keeps one reading batch open, or ends it by abort, which stores
- * nothing. Read all slides out, and file them in a newly formatted register, at the first 17 that no commit cures: a begin then still
+ * nothing. Read all slides out, and bring them into a fresh register, at the first 17 that no commit cures: a begin then still
  * passes. A 17 of restart at 16,384 slots is an end: no longer areas can be lent.
+ *
+ *
+ * IMPORTING
+ *
+ * A register starts empty (donzhikar_format) or with the slides of an older instrument (donzhikar_load): two columns, the keys by rising
+ * number and their values. What the areas held before is gone in both. At most 8,040 slides fit 896 pages (the table has other sizes), else
+ * 18. A load to the last page leaves none for an insert, which needs 14 free ones at least. Two loads of the same columns into areas of
+ * one size leave the same bytes. What was loaded stands in the pages and in no log record, so keep the columns: a damaged page of an imported
+ * register cannot be made anew from the log alone (docs/SERVICE.md).
+ *
+ * Load into areas that are in no use. A power failure during a load, as during a format, may leave pages of the new register beside the log
+ * of the old one, and a restart may then return 0 for slides that are neither's: load or format again, before any restart. A load that is
+ * refused changes no area, but leaves an empty desk: a register that was running in these areas answers 11 from then on, and a restart
+ * brings it back without its open batches.
  *
  *
  * TRAYS
@@ -128,10 +147,11 @@
  *
  * WHAT THE HOST MUST GUARANTEE ABOUT STORES
  *
- * Only format, commit, write-out and restart write to the stable areas. One store is one page of 128 bytes at a multiple of 128 in
+ * Only format, load, commit, write-out and restart write to the stable areas. One store is one page of 128 bytes at a multiple of 128 in
  * stable_pages, or one slot of 144 bytes at a multiple of 144 in stable_log. A call's stores are a list, in this order:
  *
  *   format      every page by rising number, then every slot by rising number
+ *   load        the same
  *   commit      every record that is not yet stored, by rising number, the commit's own last
  *   write-out   the same, then the one page
  *   restart     at its end, the new records by rising number
@@ -148,13 +168,13 @@
  *
  * The stable areas are ordinary memory, of which the host keeps a copy where it outlasts a power failure. What they show while a call
  * runs is not promised: the compiler and the processor may order and join writes to memory. So memory with a battery is not lent itself;
- * it holds the copy. It is enough to carry the changed parts out to the copy after each of the four calls, in the order above, before
+ * it holds the copy. It is enough to carry the changed parts out to the copy after each of the five calls, in the order above, before
  * going on. examples/host does so, in a file, and docs/DRIVE.md says how.
  *
  *
  * MEMORY AND TIME
  *
- * The library allocates nothing and has no state. A call takes less than 64 KiB of stack. Every call but format and restart first
+ * The library allocates nothing and has no state. A call takes less than 64 KiB of stack. Every call but format, load and restart first
  * judges whether the areas are sound, which reads all of both logs and all working pages.
  *
  *
@@ -232,7 +252,7 @@
 extern "C" {
 #endif
 
-#define DONZHIKAR_VERSION "1.2.0"
+#define DONZHIKAR_VERSION "1.3.0"
 
 #define DONZHIKAR_PAGE_BYTES 128
 #define DONZHIKAR_SLOT_BYTES 144
@@ -242,6 +262,7 @@ extern "C" {
 #define DONZHIKAR_MOST_PAGES 896
 #define DONZHIKAR_FEWEST_SLOTS 64
 #define DONZHIKAR_MOST_SLOTS 16384
+#define DONZHIKAR_MOST_LOADED 8040
 
 /* What a call returns. */
 #define DONZHIKAR_DONE 0
@@ -252,6 +273,8 @@ extern "C" {
 #define DONZHIKAR_ERROR_PAGE_AND_LOG_DISAGREE 5
 #define DONZHIKAR_ERROR_DAMAGED_TREE 6
 #define DONZHIKAR_ERROR_UNREAD_LABEL 7
+#define DONZHIKAR_ERROR_COLUMNS_DIFFER 8
+#define DONZHIKAR_ERROR_KEYS_NOT_RISING 9
 #define DONZHIKAR_ERROR_NOT_SOUND 11
 #define DONZHIKAR_ERROR_NO_SUCH_BATCH 12
 #define DONZHIKAR_ERROR_EIGHT_BATCHES_OPEN 13
@@ -288,6 +311,8 @@ static inline const char *donzhikar_text(uint32_t reason)
     case DONZHIKAR_ERROR_PAGE_AND_LOG_DISAGREE: return "a stored page and the log do not agree";
     case DONZHIKAR_ERROR_DAMAGED_TREE: return "the stored pages make no tree, or do not agree with the open batches";
     case DONZHIKAR_ERROR_UNREAD_LABEL: return "key 0 stands for an unread label";
+    case DONZHIKAR_ERROR_COLUMNS_DIFFER: return "the two columns differ in length";
+    case DONZHIKAR_ERROR_KEYS_NOT_RISING: return "the keys do not rise";
     case DONZHIKAR_ERROR_NOT_SOUND: return "the working areas or the desk are not what calls leave; after a power failure, restart";
     case DONZHIKAR_ERROR_NO_SUCH_BATCH: return "no such batch is open";
     case DONZHIKAR_ERROR_EIGHT_BATCHES_OPEN: return "eight batches are open";
@@ -309,6 +334,16 @@ uint32_t donzhikar_format(
     uint8_t *work_pages, size_t work_pages_length, uint8_t *stable_pages, size_t stable_pages_length,
     uint8_t *work_log, size_t work_log_length, uint8_t *stable_log, size_t stable_log_length,
     uint8_t *desk, size_t desk_length, uint8_t *values, size_t values_length);
+
+/* Makes a register of the slides in two columns, and gives an empty desk: key i of `keys`, by rising number, has value i of `slide_values`. The
+ * lengths count numbers, not bytes. The columns are only read; they overlap none of the areas, and are not null where they are empty. What the
+ * areas and the desk held before does not matter. Empty columns give what format gives. See IMPORTING.
+ * Refused: 1, 8, 7, 9, 18, in this order. Stores. */
+uint32_t donzhikar_load(
+    uint8_t *work_pages, size_t work_pages_length, uint8_t *stable_pages, size_t stable_pages_length,
+    uint8_t *work_log, size_t work_log_length, uint8_t *stable_log, size_t stable_log_length,
+    uint8_t *desk, size_t desk_length, uint8_t *values, size_t values_length,
+    const uint32_t *keys, size_t keys_length, const uint32_t *slide_values, size_t slide_values_length);
 
 /* Opens a batch. First value: its number, which is never 0. At most eight are open at a time.
  * Refused: 1, 11, 13, 17. */
@@ -429,6 +464,12 @@ static inline void donzhikar_give(const struct donzhikar *r, int which, uint32_t
 static inline uint32_t donzhikar_format_in(struct donzhikar *r)
 {
     return donzhikar_format(DONZHIKAR_LENT(r));
+}
+
+/* As many slides in both columns. */
+static inline uint32_t donzhikar_load_in(struct donzhikar *r, const uint32_t *keys, const uint32_t *slide_values, size_t slides)
+{
+    return donzhikar_load(DONZHIKAR_LENT(r), keys, slides, slide_values, slides);
 }
 
 /* Pointers to answers may be NULL here and below. */

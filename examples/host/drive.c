@@ -198,6 +198,22 @@ int drive_open(struct drive *d, const char *path)
     return d->found >= 0;
 }
 
+void drive_make(struct drive *d, const char *path)
+{
+    if (!drive_open(d, path))
+        return;
+    drive_give_up(d);
+    fprintf(stderr, "drive: %s is there already, and stays as it was\n", path);
+    exit(2);
+}
+
+int drive_writes_over(const char *path, int file)
+{
+    char name[NAME_BYTES];
+    name_before(name, path);
+    return leads_to(name, file);
+}
+
 void drive_look(struct drive *d, const char *path)
 {
     d->path = path;

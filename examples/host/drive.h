@@ -47,6 +47,12 @@ struct drive_store {
  * The path is not copied. */
 int drive_open(struct drive *d, const char *path);
 
+/* Instead of drive_open: for a drive that is to be made. Where something has this name already the program ends, and that stays as it was. */
+void drive_make(struct drive *d, const char *path);
+
+/* Whether drive_open would write over this open file, which is of another use. */
+int drive_writes_over(const char *path, int file);
+
 /* Instead of drive_open: for reading alone, beside others that do so, and without one that writes. Nothing on the drive is changed, and
  * none of the calls below but drive_read and drive_close may follow. Where there is no drive of this name the program ends. */
 void drive_look(struct drive *d, const char *path);

@@ -50,6 +50,41 @@ uint32_t host_start(struct host *h, const char *path, size_t pages, size_t slots
     return reason;
 }
 
+static uint32_t load(struct host *h, const struct slide_columns *of, size_t slides)
+{
+    return donzhikar_load(AREAS(h), of->keys, slides, of->values, slides);
+}
+
+/* How many of these slides fit, where not all do. The register says it, by loading fewer: more slides never need fewer pages. */
+static size_t fitting(struct host *h, const struct slide_columns *of)
+{
+    size_t fit = 0, unfit = of->slides;
+    while (unfit - fit > 1) {
+        size_t tried = fit + (unfit - fit) / 2;
+        if (load(h, of, tried) == DONZHIKAR_DONE)
+            fit = tried;
+        else
+            unfit = tried;
+    }
+    return fit;
+}
+
+/* A load that the power cuts leaves nothing of use, as a format does, so it is made in memory too, and the drive after it. */
+uint32_t host_import(struct host *h, const char *path, size_t pages, size_t slots, const struct slide_columns *of)
+{
+    memset(h, 0, sizeof *h);
+    if (is_too_large(pages, slots))
+        return DONZHIKAR_ERROR_LENGTHS;
+    image_lend(&h->image, pages, slots);
+    lend_work(h);
+    uint32_t reason = load(h, of, of->slides);
+    if (reason == DONZHIKAR_ERROR_PAGES_SHORT)
+        h->fitting = fitting(h, of);
+    if (reason == DONZHIKAR_DONE)
+        image_make(&h->image, path);
+    return reason;
+}
+
 /* What restart stores stays in memory. */
 uint32_t host_look(struct host *h, const char *path, size_t pages, size_t slots)
 {

@@ -3,6 +3,7 @@
 #ifndef HOST_H
 #define HOST_H
 
+#include "columns.h"
 #include "donzhikar.h"
 #include "image.h"
 
@@ -12,6 +13,7 @@ struct host {
     uint8_t desk[DONZHIKAR_DESK_BYTES];
     uint8_t values[DONZHIKAR_VALUES_BYTES];
     uint32_t restart, ended, redone; /* what restart returned, and its two values */
+    size_t fitting;                  /* after an import's 18: how many of its slides fit */
     int only_reads;
 };
 
@@ -22,6 +24,10 @@ uint32_t host_start(struct host *h, const char *path, size_t pages, size_t slots
 
 /* The same for a drive that is there, in memory alone: nothing on the drive is changed. Calls that store may not follow. */
 uint32_t host_look(struct host *h, const char *path, size_t pages, size_t slots);
+
+/* Makes a drive of this name with a register that holds the slides of the columns. Returns what load returns; where it is refused there is no
+ * drive. Where something has the name the program ends, and that stays as it was. Only host_stop may follow. */
+uint32_t host_import(struct host *h, const char *path, size_t pages, size_t slots, const struct slide_columns *of);
 
 void host_stop(struct host *h);
 

@@ -26,8 +26,7 @@ uint8_t *zeros(size_t length)
     return bytes;
 }
 
-/* Stable areas of so many pages and slots, all zero. */
-static void lend(struct image *im, size_t pages, size_t slots)
+void image_lend(struct image *im, size_t pages, size_t slots)
 {
     im->pages = pages;
     im->slots = slots;
@@ -160,7 +159,7 @@ static void read_all(struct image *im, size_t pages, size_t slots)
     size_t had_pages, had_slots;
     struct last_group last = { .found = 0 };
     read_counts(im, &had_pages, &had_slots);
-    lend(im, pages > had_pages ? pages : had_pages, slots > had_slots ? slots : had_slots);
+    image_lend(im, pages > had_pages ? pages : had_pages, slots > had_slots ? slots : had_slots);
     read_up_to(im, had_pages, had_slots, &last);
     damage_ends(im);
     if (group_lacks_stores(&last)) {
@@ -175,7 +174,7 @@ int image_open(struct image *im, const char *path, size_t pages, size_t slots)
     if (found)
         read_all(im, pages, slots);
     else
-        lend(im, pages, slots);
+        image_lend(im, pages, slots);
     return found;
 }
 
@@ -195,6 +194,12 @@ void image_renew(struct image *im)
     fill_all(im);
     drive_name(&im->drive);
     im->is_renewed = 1;
+}
+
+void image_make(struct image *im, const char *path)
+{
+    drive_make(&im->drive, path);
+    image_renew(im);
 }
 
 void image_close(struct image *im)

@@ -30,6 +30,9 @@ size_t image_log_bytes(const struct image *im);
 /* So many bytes of zeros, or the end of the program. */
 uint8_t *zeros(size_t length);
 
+/* Stable areas of so many pages and slots, all zero, of no drive yet. */
+void image_lend(struct image *im, size_t pages, size_t slots);
+
 /* Reads the stable areas from the drive of this name. Where it has fewer pages or slots than asked for, zeros are added. Returns 0, with
  * areas of zeros, where there is no such drive. Nothing is relied on before image_renew: what is read may not stay.
  * Where a place has no copy that can be taken the program ends with status 2, and says which. */
@@ -40,6 +43,10 @@ void image_look(struct image *im, const char *path, size_t pages, size_t slots);
 
 /* Writes the stable areas out anew, as they stand in memory: all of them, or the drive is as it was found. From then on they stay. */
 void image_renew(struct image *im);
+
+/* Makes a drive of this name that has the stable areas, as they stand in memory: all of them, or there is none. Where something has the name
+ * the program ends, and that stays as it was. */
+void image_make(struct image *im, const char *path);
 
 /* Stores what the last call did, all of it or nothing: the new records, and of a write-out that is done the page too. */
 void image_keep(struct image *im);

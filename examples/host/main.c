@@ -18,14 +18,21 @@
  * Or: host --read-only FILE. Nothing on the drive is changed, no permission to write is needed, and the restart is made in memory. `list` and
  * `check` are the only commands, and may follow where the restart is refused too. PAGES and SLOTS may be given, to lend more after 17 or 18.
  *
- * Status: 0; 1 where the start was refused; 2 where the drive failed, has a place with both copies damaged, or is another program's. */
+ * Or: host --import TEXT FILE PAGES SLOTS. A new FILE gets so many pages and slots, and the slides in TEXT, which are two columns of numbers by
+ * rising key (columns.h). The answer is `import: 0` and how many slides there are, or `import: ` and the refusal's number, and no command
+ * follows. What is wrong is said on standard error, with the line of TEXT. A FILE that is there stays as it was.
+ *
+ * Status: 0; 1 where the start or the import was refused, or TEXT is not two columns; 2 where the drive failed, has a place with both copies
+ * damaged, is another program's, or is there already and was to be made by an import. */
 #include "damage.h"
 #include "host.h"
+#include "import.h"
+#include "lines.h"
 #include <stdio.h>
 #include <stdlib.h>
 #include <string.h>
 
-enum { LINE = 256, CASES = 8, MOST_NUMBERS = 3, MOST_ANSWERS = 2 };
+enum { CASES = 8, MOST_NUMBERS = 3, MOST_ANSWERS = 2 };
 
 /* The open cases: each has a batch of the register, 0 is no batch; and its last tray, counted from 1, with the mark from before it. */
 struct desk_case {
@@ -189,17 +196,6 @@ static const struct command {
     { "list", 0, 0, list_slides },   { "check", 0, 0, check_drive },
 };
 
-/* Reads one number of digits alone, and moves on behind it. Returns 0 where there is none, or it has more than 32 bits. */
-static int read_number(const char **at, uint32_t *number)
-{
-    uint64_t sum = 0;
-    const char *start = *at;
-    while (**at >= '0' && **at <= '9' && sum <= UINT32_MAX)
-        sum = sum * 10 + (uint64_t)(*(*at)++ - '0');
-    *number = (uint32_t)sum;
-    return *at > start && sum <= UINT32_MAX;
-}
-
 /* The command of a line, and its numbers, or NULL. */
 static const struct command *read_command(const char *line, uint32_t numbers[MOST_NUMBERS])
 {
@@ -210,7 +206,7 @@ static const struct command *read_command(const char *line, uint32_t numbers[MOS
         if (strlen(command->name) != length || memcmp(command->name, line, length) != 0)
             continue;
         for (int n = 0; n < command->numbers; n++)
-            if (*at++ != ' ' || !read_number(&at, &numbers[n]))
+            if (*at++ != ' ' || number_read(&at, &numbers[n]) != NUMBER)
                 return NULL;
         return *at == '\0' ? command : NULL;
     }
@@ -250,27 +246,15 @@ static void obey(struct bench *b, const char *line)
     answer(b, line, reason, command->answers);
 }
 
-/* Reads a line without its end. One that is too long is read to its end, and is no command. Returns 0 where there is none. */
-static int read_line(char line[LINE])
+static size_t size_in(const char *word)
 {
-    if (fgets(line, LINE, stdin) == NULL)
-        return 0;
-    size_t length = strcspn(line, "\n");
-    if (length == LINE - 1) {
-        int byte;
-        do
-            byte = getchar();
-        while (byte != EOF && byte != '\n');
-        length = 0;
-    }
-    line[length] = '\0';
-    return 1;
+    return strtoul(word, NULL, 10);
 }
 
 /* Starts on FILE, with PAGES and SLOTS where they are given. Returns 0 where no command may follow. */
 static int start(struct bench *b, char **words, int count, int only_reads)
 {
-    size_t pages = count == 3 ? strtoul(words[1], NULL, 10) : 0, slots = count == 3 ? strtoul(words[2], NULL, 10) : 0;
+    size_t pages = count == 3 ? size_in(words[1]) : 0, slots = count == 3 ? size_in(words[2]) : 0;
     uint32_t reason = only_reads ? host_look(&b->host, words[0], pages, slots) : host_start(&b->host, words[0], pages, slots);
     b->answers[0] = b->host.ended;
     b->answers[1] = b->host.redone;
@@ -278,18 +262,25 @@ static int start(struct bench *b, char **words, int count, int only_reads)
     return reason == DONZHIKAR_DONE || (only_reads && reason != DONZHIKAR_ERROR_LENGTHS);
 }
 
+static int usage(const char *name)
+{
+    fprintf(stderr, "usage: %s FILE PAGES SLOTS\n       %s --read-only FILE [PAGES SLOTS]\n", name, name);
+    fprintf(stderr, "       %s --import TEXT FILE PAGES SLOTS\n", name);
+    return 1;
+}
+
 int main(int count, char **words)
 {
     static struct bench bench;
-    char line[LINE];
+    char line[LINE_BYTES];
+    if (count == 6 && strcmp(words[1], "--import") == 0)
+        return import_slides(words[2], words[3], size_in(words[4]), size_in(words[5]));
     int only_reads = count > 1 && strcmp(words[1], "--read-only") == 0, before = 1 + only_reads;
-    if (count - before != 3 && !(only_reads && count - before == 1)) {
-        fprintf(stderr, "usage: %s FILE PAGES SLOTS\n       %s --read-only FILE [PAGES SLOTS]\n", words[0], words[0]);
-        return 1;
-    }
+    if (count - before != 3 && !(only_reads && count - before == 1))
+        return usage(words[0]);
     if (!start(&bench, words + before, count - before, only_reads))
         return 1;
-    while (read_line(line))
+    while (line_read(stdin, line))
         obey(&bench, line);
     host_stop(&bench.host);
     return bench.host.restart == DONZHIKAR_DONE ? 0 : 1;

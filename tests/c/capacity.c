@@ -1,8 +1,11 @@
 /* How much fits: the header's table, measured. Slides are filed by rising keys, in cases of 1 and of 10, until the first begin or insert is
- * refused; and in one case that is never committed. Prints the table's lines. */
+ * refused; in one case that is never committed; and loaded. Prints the table's lines. */
 #include "donzhikar.h"
 #include <stdio.h>
 #include <stdlib.h>
+
+/* More than any register takes. */
+#define MOST_TRIED 9000
 
 static const size_t sizes[][2] = { { 16, 64 }, { 16, 128 }, { 64, 160 }, { 256, 1024 }, { 896, 16384 } };
 
@@ -84,12 +87,26 @@ static uint32_t uncommitted(size_t pages, size_t slots)
     return count;
 }
 
+/* The most slides that are loaded: each one more is tried until one is refused. */
+static size_t loaded(size_t pages, size_t slots)
+{
+    struct donzhikar r = new_register(pages, slots);
+    static uint32_t column[MOST_TRIED];
+    size_t count = 0;
+    for (size_t i = 0; i < MOST_TRIED; i++)
+        column[i] = (uint32_t)i + 1;
+    while (count < MOST_TRIED && donzhikar_load_in(&r, column, column, count) == DONZHIKAR_DONE)
+        count++;
+    give_back(&r);
+    return count - 1;
+}
+
 int main(void)
 {
     for (size_t i = 0; i < sizeof sizes / sizeof sizes[0]; i++) {
         const size_t pages = sizes[i][0], slots = sizes[i][1];
-        printf(" *   %5zu x %-5zu %24u %19u %20u\n", pages, slots, (unsigned)uncommitted(pages, slots), (unsigned)filed(pages, slots, 1),
-               (unsigned)filed(pages, slots, 10));
+        printf(" *   %5zu x %-5zu %24u %19u %20u %14zu\n", pages, slots, (unsigned)uncommitted(pages, slots),
+               (unsigned)filed(pages, slots, 1), (unsigned)filed(pages, slots, 10), loaded(pages, slots));
         fflush(stdout);
     }
     return 0;

@@ -56,7 +56,7 @@ void give_back(struct instrument *in)
 int numbers_of(char letter)
 {
     switch (letter) {
-    case 'Z': case 'B': case 'R': return 0;
+    case 'Z': case 'O': case 'B': case 'R': return 0;
     case 'C': case 'A': case 'M': case 'W': return 1;
     case 'F': case 'N': case 'D': case 'T': return 2;
     case 'I': return 3;
@@ -67,8 +67,10 @@ int numbers_of(char letter)
 uint32_t make(struct instrument *in, struct call made)
 {
     const uint32_t *n = made.numbers;
+    const struct columns *c = &in->columns;
     switch (made.letter) {
     case 'Z': return donzhikar_format(LENT);
+    case 'O': return donzhikar_load(LENT, c->keys, c->keys_length, c->values, c->values_length);
     case 'B': return donzhikar_begin(LENT);
     case 'F': return donzhikar_fetch(LENT, n[0], n[1]);
     case 'N': return donzhikar_next(LENT, n[0], n[1]);
@@ -91,14 +93,20 @@ static size_t full_slots(const struct area *log)
     return n;
 }
 
+/* Format and load store every page and then every slot. */
+static int stores_all(char letter)
+{
+    return letter == 'Z' || letter == 'O';
+}
+
 size_t stores_of(const struct instrument *in, struct call made, uint32_t reason, const uint8_t *desk, const struct area *stable_log)
 {
     if (reason != 0)
         return 0;
     size_t stored = number_at(in->desk, STORED_AT);
-    switch (made.letter) {
-    case 'Z':
+    if (stores_all(made.letter))
         return in->areas[STABLE_PAGES].length / DONZHIKAR_PAGE_BYTES + in->areas[STABLE_LOG].length / DONZHIKAR_SLOT_BYTES;
+    switch (made.letter) {
     case 'C': return stored - number_at(desk, STORED_AT);
     case 'W': return stored - number_at(desk, STORED_AT) + 1;
     case 'R': return stored - full_slots(stable_log);
@@ -111,14 +119,14 @@ static void put_back(struct area *area, const struct area *before, size_t size, 
     memcpy(area->bytes + size * part, before->bytes + size * part, size);
 }
 
-/* Store number i of a call that makes so many: format's pages come first, write-out's page last, all others are slots. */
+/* Store number i of a call that makes so many: format's and load's pages come first, write-out's page last, all others are slots. */
 static void take_back(struct instrument *in, struct call made, size_t stores, size_t i, const struct area before[AREAS])
 {
-    size_t pages = made.letter == 'Z' ? in->areas[STABLE_PAGES].length / DONZHIKAR_PAGE_BYTES : 0;
+    size_t pages = stores_all(made.letter) ? in->areas[STABLE_PAGES].length / DONZHIKAR_PAGE_BYTES : 0;
     size_t last = number_at(in->desk, STORED_AT);
     if (i < pages)
         put_back(&in->areas[STABLE_PAGES], &before[STABLE_PAGES], DONZHIKAR_PAGE_BYTES, i);
-    else if (made.letter == 'Z')
+    else if (stores_all(made.letter))
         put_back(&in->areas[STABLE_LOG], &before[STABLE_LOG], DONZHIKAR_SLOT_BYTES, i - pages);
     else if (made.letter == 'W' && i + 1 == stores)
         put_back(&in->areas[STABLE_PAGES], &before[STABLE_PAGES], DONZHIKAR_PAGE_BYTES, made.numbers[0]);

@@ -13,14 +13,23 @@ struct area {
     size_t length;
 };
 
+/* What a load is lent besides: numbers of 32 bits, and how many there are of each. */
+struct columns {
+    const uint32_t *keys;
+    size_t keys_length;
+    const uint32_t *values;
+    size_t values_length;
+};
+
 struct instrument {
     struct area areas[AREAS];
     uint8_t desk[DONZHIKAR_DESK_BYTES];
     uint8_t values[DONZHIKAR_VALUES_BYTES];
+    struct columns columns;
 };
 
-/* A call by its letter: Z format, B begin, F fetch, N next, I insert, D delete, C commit, A abort, M mark, T return to a mark, W write-out,
- * R restart. */
+/* A call by its letter: Z format, O load of the instrument's columns, B begin, F fetch, N next, I insert, D delete, C commit, A abort, M mark,
+ * T return to a mark, W write-out, R restart. */
 struct call {
     char letter;
     uint32_t numbers[3];
@@ -47,7 +56,7 @@ size_t answer_text(char *text, size_t size, char letter, uint32_t reason, const 
 
 uint32_t number_at(const uint8_t *bytes, size_t at);
 
-/* How many numbers a call's letter takes, or -1 where there is no such call. */
+/* How many numbers a call's letter takes, or -1 where there is no such call. A load takes its columns, and no number. */
 int numbers_of(char letter);
 
 #endif

@@ -5,12 +5,11 @@
 #include <stdlib.h>
 #include <string.h>
 
-enum { MOST_NUMBERS = 4 };
-
 struct command {
     char letter;
-    int count;
-    uint64_t numbers[MOST_NUMBERS];
+    size_t count, room;
+    uint64_t *numbers;
+    uint32_t *columns; /* a load's numbers after the first, as the library takes them */
 };
 
 /* FNV-1a of 64 bits. A zero byte only multiplies by the prime, so the zeros at an area's end are one power of it. */
@@ -65,15 +64,29 @@ static const char *read_number(const char *at, uint64_t *number)
     return at;
 }
 
+/* The place of the next number. A load's line has any number of them. */
+static uint64_t *next_place(struct command *to)
+{
+    if (to->count == to->room) {
+        to->room = 2 * to->room + 4;
+        to->numbers = realloc(to->numbers, to->room * sizeof *to->numbers);
+        if (to->numbers == NULL)
+            exit(2);
+    }
+    return &to->numbers[to->count++];
+}
+
 /* A letter and its numbers, one space between, digits only. Returns 0 where the line is none. */
 static int read_command(const char *line, struct command *to)
 {
-    const char *at = line;
+    /* A line that loads no records may keep the space before the first. */
+    const char *at = strcmp(line, "O 0 ") == 0 ? "O 0" : line;
     if (*at == '\0' || *at == ' ')
         return 0;
     to->letter = *at++;
-    for (to->count = 0; at != NULL && *at == ' ' && to->count < MOST_NUMBERS; to->count++)
-        at = read_number(at + 1, &to->numbers[to->count]);
+    to->count = 0;
+    while (at != NULL && *at == ' ')
+        at = read_number(at + 1, next_place(to));
     return at != NULL && *at == '\0';
 }
 
@@ -145,8 +158,39 @@ static int damage_desk(struct instrument *in, const struct command *command)
     return 1;
 }
 
+/* The columns of a load: the first number says how many of the others are keys, and the rest are values. Returns 0 where there are fewer. */
+static int lend_columns(struct instrument *in, struct command *command)
+{
+    if (command->count == 0 || command->numbers[0] >= command->count)
+        return 0;
+    command->columns = realloc(command->columns, command->count * sizeof *command->columns);
+    if (command->columns == NULL)
+        exit(2);
+    for (size_t i = 1; i < command->count; i++) {
+        if (command->numbers[i] > UINT32_MAX)
+            return 0;
+        command->columns[i - 1] = (uint32_t)command->numbers[i];
+    }
+    size_t keys = (size_t)command->numbers[0];
+    in->columns = (struct columns){ command->columns, keys, command->columns + keys, command->count - 1 - keys };
+    return 1;
+}
+
+/* The numbers of any other call. Returns 0 where there are fewer or more, or one has more than 32 bits. */
+static int take_numbers(struct call *made, const struct command *command)
+{
+    if (numbers_of(made->letter) < 0 || (size_t)numbers_of(made->letter) != command->count)
+        return 0;
+    for (size_t i = 0; i < command->count; i++) {
+        if (command->numbers[i] > UINT32_MAX)
+            return 0;
+        made->numbers[i] = (uint32_t)command->numbers[i];
+    }
+    return 1;
+}
+
 /* Carries out one command. Returns 0 where there is no such command. */
-static int run(struct instrument *in, const struct command *command, int64_t *cut, struct area before[AREAS])
+static int run(struct instrument *in, struct command *command, int64_t *cut, struct area before[AREAS])
 {
     struct call made = { command->letter, { 0, 0, 0 } };
     if (command->letter == 'L')
@@ -159,13 +203,8 @@ static int run(struct instrument *in, const struct command *command, int64_t *cu
         *cut = command->numbers[0] > INT64_MAX ? INT64_MAX : (int64_t)command->numbers[0];
         return 1;
     }
-    if (numbers_of(command->letter) != command->count)
+    if (!(command->letter == 'O' ? lend_columns(in, command) : take_numbers(&made, command)))
         return 0;
-    for (int i = 0; i < command->count; i++) {
-        if (command->numbers[i] > UINT32_MAX)
-            return 0;
-        made.numbers[i] = (uint32_t)command->numbers[i];
-    }
     run_call(in, made, *cut, before);
     *cut = -1;
     return 1;
@@ -177,7 +216,7 @@ int main(void)
     struct area before[AREAS] = { { NULL, 0 }, { NULL, 0 }, { NULL, 0 }, { NULL, 0 } };
     const size_t none[AREAS] = { 0, 0, 0, 0 };
     struct area line = { NULL, 0 };
-    struct command command;
+    struct command command = { 0, 0, 0, NULL, NULL };
     int64_t cut = -1;
     lend(&in, none);
     for (unsigned number = 1; read_line(&line); number++) {
@@ -191,6 +230,8 @@ int main(void)
     for (int i = 0; i < AREAS; i++)
         free(before[i].bytes);
     free(line.bytes);
+    free(command.numbers);
+    free(command.columns);
     give_back(&in);
     return 0;
 }

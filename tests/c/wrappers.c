@@ -36,6 +36,17 @@ static void same(const char *what, uint32_t by_plain, uint32_t by_struct)
          what);
 }
 
+static void try_loading(void)
+{
+    const uint32_t keys[] = { 400, 410, 405 }, chosen[] = { 4, 5, 6 };
+    same("load", donzhikar_load(PLAIN, keys, 2, chosen, 2), donzhikar_load_in(&r, keys, chosen, 2));
+    same("load of falling keys", donzhikar_load(PLAIN, keys, 3, chosen, 3), donzhikar_load_in(&r, keys, chosen, 3));
+    same("restart after it", donzhikar_restart(PLAIN), donzhikar_restart_in(&r, NULL, NULL));
+    same("begin", donzhikar_begin(PLAIN), donzhikar_begin_in(&r, NULL));
+    same("fetch what was loaded", donzhikar_fetch(PLAIN, 1, 410), donzhikar_fetch_in(&r, 1, 410, NULL));
+    hold(donzhikar_value(values, 0) == 5, "what was loaded");
+}
+
 static void try_wrappers(void)
 {
     uint32_t batch, value, key, mark, ended, redone;
@@ -164,9 +175,9 @@ static void try_coming_back(void)
 
 static void try_texts(void)
 {
-    const char *none = donzhikar_text(8);
+    const char *none = donzhikar_text(10);
     for (uint32_t reason = 0; reason <= 21; reason++) {
-        const int known = reason <= 7 || (reason >= 11 && reason <= 20);
+        const int known = reason <= 9 || (reason >= 11 && reason <= 20);
         hold((strcmp(donzhikar_text(reason), none) != 0) == known, "text");
     }
     hold(strcmp(DONZHIKAR_VERSION, "") != 0, "version");
@@ -180,6 +191,7 @@ int main(void)
     r.work_log = lent.work_log;
     r.stable_log = lent.stable_log;
     r.slots = SLOTS;
+    try_loading();
     try_wrappers();
     try_loops();
     try_trays();

@@ -27,6 +27,7 @@ enum deed {
     GIVES_BATCH, /* gives the batch's number as the first value */
     TAKES_BACK,  /* leaves the working areas and the desk as they were */
     ENDS,        /* aborts the batch besides */
+    RESHAPES,    /* gives the loaded tree the shape `with` */
     /* And what it does before: */
     DIGS,        /* takes much more stack */
     SHARES,      /* works on pages of its own, which all calls share */
@@ -57,6 +58,17 @@ struct fault {
     /* Only where the call has written nothing; only where the batch has its abort mark. */
     enum { ANY_WRITING, NOTHING_WRITTEN } writing;
     enum { ANY_BATCH, ABORT_MARKED } batch;
+    /* Only where a load's keys have a 0, do not rise, do not rise but nowhere fall, take more pages than there are, one more, or just these. */
+    enum { ANY_COLUMNS, WITH_0, NOT_RISING, ONLY_EQUAL, TOO_MANY, ONE_TOO_MANY, JUST_FITTING } columns;
+};
+
+/* What a loaded tree is like in the wrong ways. */
+enum shape {
+    LAST_OF_3,     /* a last leaf of fewer than 4 entries does not share with the one before */
+    INDEX_OF_14,   /* index pages are filled to 14 */
+    BOTTOM_UP,     /* the leaves are numbered first */
+    LAST_NOT_TOP,  /* the last leaf's high key is its last key */
+    LEFT_SMALLER   /* of two leaves that share, the right one takes the larger half */
 };
 
 #define ALWAYS .least_pages = 0
@@ -140,6 +152,24 @@ static const struct fault faults[] = {
     {"no-mark-asked-before-12", 'T', 12, ANSWERS, 20, .mark = NOT_ITS},
     {"no-mark-asked-before-11", 'T', 11, ANSWERS, 20, .mark = NOT_ITS},
     {"freed-key-still-held", 'F', 16, ANSWERS, 14, .key = KEY_FREED},
+    {"load-leaves-a-last-page-of-3", 'O', 0, RESHAPES, LAST_OF_3, ALWAYS},
+    {"load-gives-the-right-page-more", 'O', 0, RESHAPES, LEFT_SMALLER, ALWAYS},
+    {"load-fills-index-pages-to-14", 'O', 0, RESHAPES, INDEX_OF_14, ALWAYS},
+    {"load-numbers-bottom-up", 'O', 0, RESHAPES, BOTTOM_UP, ALWAYS},
+    {"load-ends-below-top", 'O', 0, RESHAPES, LAST_NOT_TOP, ALWAYS},
+    {"load-takes-equal-keys", 'O', 9, ANSWERS, 0, .columns = ONLY_EQUAL},
+    {"load-asks-7-after-9", 'O', 7, ANSWERS, 9, .columns = NOT_RISING},
+    {"load-asks-8-after-7", 'O', 8, ANSWERS, 7, .columns = WITH_0},
+    {"load-asks-8-after-9", 'O', 8, ANSWERS, 9, .columns = NOT_RISING},
+    {"load-asks-9-after-18", 'O', 9, ANSWERS, 18, .columns = TOO_MANY},
+    {"load-asks-1-after-7", 'O', 1, ANSWERS, 7, .columns = WITH_0},
+    {"load-is-a-page-too-late", 'O', 18, ANSWERS, 0, .columns = ONE_TOO_MANY},
+    {"load-is-a-page-too-early", 'O', 0, ANSWERS, 18, .columns = JUST_FITTING},
+    {"load-leaves-a-record", 'O', 0, TURNS, STABLE_LOG, ALWAYS},
+    {"load-reads-after-the-desk", 'O', 0, READS_AFTER, DESK, ALWAYS},
+    {"refused-load-keeps-the-desk", 'O', 9, TAKES_BACK, 0, ALWAYS},
+    {"refused-load-changes-a-page", 'O', 18, TURNS, WORK_PAGES, ALWAYS},
+    {"refused-load-changes-the-stable-log", 'O', 8, TURNS, STABLE_LOG, ALWAYS},
     {"largest-fetch-is-slow", 'F', 0, REPEATS, 0, .least_pages = LARGEST},
 };
 
@@ -479,6 +509,138 @@ static uint32_t mark_for(const struct part parts[PARTS], uint32_t batch, uint32_
     return deed == COUNTS ? mark_by_count(parts, batch, mark) : mark;
 }
 
+/* The columns of the load that is made. Two registers may be loaded at once. */
+struct columns {
+    const uint32_t *keys;
+    size_t keys_length;
+};
+
+static _Thread_local struct columns loaded;
+
+static size_t pages_of_level(size_t entries)
+{
+    return entries <= MOST_ENTRIES ? 1 : (entries + 9) / 10;
+}
+
+/* How many pages a load of so many records takes, with the map. */
+static size_t pages_needed(size_t records)
+{
+    size_t pages = 1, entries = records, level;
+    do {
+        level = pages_of_level(entries);
+        pages += level;
+        entries = level;
+    } while (level > 1);
+    return pages;
+}
+
+static int columns_are(const struct fault *f, const struct part parts[PARTS])
+{
+    int zero = 0, equal = 0, falling = 0;
+    size_t needed = pages_needed(loaded.keys_length), pages = parts[WORK_PAGES].length / PAGE_BYTES;
+    for (size_t i = 0; i < loaded.keys_length && f->columns != ANY_COLUMNS; i++) {
+        zero |= loaded.keys[i] == 0;
+        equal |= i > 0 && loaded.keys[i] == loaded.keys[i - 1];
+        falling |= i > 0 && loaded.keys[i] < loaded.keys[i - 1];
+    }
+    switch (f->columns) {
+    case WITH_0: return zero;
+    case NOT_RISING: return equal || falling;
+    case ONLY_EQUAL: return equal && !falling;
+    case TOO_MANY: return needed > pages;
+    case ONE_TOO_MANY: return needed == pages + 1;
+    case JUST_FITTING: return needed == pages;
+    default: return 1;
+    }
+}
+
+static void set_number(uint8_t *bytes, uint32_t number)
+{
+    for (int i = 0; i < 4; i++)
+        bytes[i] = (uint8_t)(number >> (24 - 8 * i));
+}
+
+static void set_count(uint8_t *page, uint32_t count)
+{
+    page[0] = (uint8_t)((page[0] & 0xFC) | count >> 2);
+    page[1] = (uint8_t)((page[1] & 0x3F) | (count & 3) << 6);
+}
+
+static uint8_t *page_at(uint8_t *pages, size_t number)
+{
+    return pages + number * PAGE_BYTES;
+}
+
+static uint32_t level_of(const uint8_t *page)
+{
+    return page[0] >> 2 & 15;
+}
+
+/* Moves entries between a page and the next one until the left one has so many, and writes its new high key where its parent has the old. */
+static void share(uint8_t *pages, size_t left, uint32_t wanted)
+{
+    uint8_t *a = page_at(pages, left), *b = page_at(pages, left + 1), both[2 * MOST_ENTRIES * ENTRY_BYTES] = {0};
+    uint32_t of_a = keys_of_page(a).count, all = of_a + keys_of_page(b).count, old = number_at(a + 4);
+    memcpy(both, a + PAGE_ENTRIES, of_a * ENTRY_BYTES);
+    memcpy(both + of_a * ENTRY_BYTES, b + PAGE_ENTRIES, (all - of_a) * ENTRY_BYTES);
+    memset(a + PAGE_ENTRIES, 0, MOST_ENTRIES * ENTRY_BYTES);
+    memset(b + PAGE_ENTRIES, 0, MOST_ENTRIES * ENTRY_BYTES);
+    memcpy(a + PAGE_ENTRIES, both, wanted * ENTRY_BYTES);
+    memcpy(b + PAGE_ENTRIES, both + wanted * ENTRY_BYTES, (all - wanted) * ENTRY_BYTES);
+    set_count(a, wanted);
+    set_count(b, all - wanted);
+    set_number(a + 4, key_at(keys_of_page(a), wanted - 1));
+    for (size_t parent = 1; parent < left; parent++)
+        for (uint32_t i = 0; i < keys_of_page(page_at(pages, parent)).count; i++)
+            if (key_at(keys_of_page(page_at(pages, parent)), i) == old)
+                set_number(page_at(pages, parent) + PAGE_ENTRIES + i * ENTRY_BYTES, number_at(a + 4));
+}
+
+/* The number that a page has where the leaves are numbered before the index pages that stand from 2 on, or 0 and 1. */
+static uint32_t bottom_up(uint32_t page, uint32_t indexes, uint32_t leaves)
+{
+    if (page < 2)
+        return page;
+    return page < 2 + indexes ? page + leaves : page - indexes;
+}
+
+static void renumber(uint8_t *pages, uint32_t indexes, uint32_t leaves)
+{
+    static _Thread_local uint8_t before[LARGEST];
+    memcpy(before, pages, (2 + indexes + leaves) * PAGE_BYTES);
+    for (uint32_t number = 1; number < 2 + indexes + leaves; number++) {
+        uint32_t own = bottom_up(number, indexes, leaves);
+        uint8_t *page = memcpy(page_at(pages, own), page_at(before, number), PAGE_BYTES);
+        uint32_t right = bottom_up(number_at(page) >> 12 & 1023, indexes, leaves);
+        set_number(page, (number_at(page) & ~(1023u << 12)) | right << 12);
+        set_number(page + 12, own << 22);
+        for (uint32_t i = 0; level_of(page) > 0 && i < keys_of_page(page).count; i++) {
+            uint8_t *child = page + PAGE_ENTRIES + i * ENTRY_BYTES + 4;
+            set_number(child, bottom_up(number_at(child), indexes, leaves));
+        }
+    }
+}
+
+/* The loaded tree in another shape, in one of the page areas. The root is page 1, and the leaves have the last numbers. */
+static void reshape(uint8_t *pages, enum shape shape)
+{
+    uint32_t last = (uint32_t)pages_needed(loaded.keys_length) - 1, leaf = last;
+    while (leaf > 2 && level_of(page_at(pages, leaf - 1)) == 0)
+        leaf--;
+    uint32_t leaves = last - leaf + 1, indexes = last > 1 ? last - 1 - leaves : 0, rest = (uint32_t)(loaded.keys_length % 10);
+    uint8_t *end = page_at(pages, last);
+    if (shape == LAST_OF_3 && leaves > 1 && rest > 0 && rest < 4)
+        share(pages, last - 1, 10);
+    if (shape == LEFT_SMALLER && leaves > 1 && (rest == 1 || rest == 3))
+        share(pages, last - 1, (10 + rest) / 2);
+    if (shape == INDEX_OF_14 && indexes > 1)
+        share(pages, 2, 8);
+    if (shape == BOTTOM_UP && indexes > 0)
+        renumber(pages, indexes, leaves);
+    if (shape == LAST_NOT_TOP && loaded.keys_length > 0)
+        set_number(end + 4, key_at(keys_of_page(end), keys_of_page(end).count - 1));
+}
+
 /* What the wrong call returns where the right one has returned `reason` and left these parts. */
 static uint32_t spoiled(char letter, uint32_t reason, const struct part parts[PARTS], const uint32_t numbers[])
 {
@@ -486,7 +648,8 @@ static uint32_t spoiled(char letter, uint32_t reason, const struct part parts[PA
     if (shares(letter, &parts[WORK_PAGES]))
         memcpy(parts[WORK_PAGES].bytes, shared, parts[WORK_PAGES].length);
     if (!concerns(f, letter, parts) || f->when != reason || !room_is(f, parts) || !last_is(f, parts)
-        || !key_is(f, parts, numbers) || !mark_is(f, parts, numbers) || !writing_is(f, parts) || !batch_is(f, parts, numbers[1]))
+        || !key_is(f, parts, numbers) || !mark_is(f, parts, numbers) || !writing_is(f, parts) || !batch_is(f, parts, numbers[1])
+        || !columns_are(f, parts))
         return reason;
     if (f->deed == ANSWERS)
         return f->with;
@@ -494,6 +657,11 @@ static uint32_t spoiled(char letter, uint32_t reason, const struct part parts[PA
         take_back(parts);
     if (f->deed == ENDS)
         return ended(parts, numbers[1]);
+    if (f->deed == RESHAPES) {
+        reshape(parts[WORK_PAGES].bytes, f->with);
+        reshape(parts[STABLE_PAGES].bytes, f->with);
+        return reason;
+    }
     const struct part *part = &parts[f->with];
     volatile uint8_t *bytes = part->bytes;
     if (f->deed == TURNS && part->length > 0)
@@ -517,12 +685,15 @@ static uint32_t spoiled(char letter, uint32_t reason, const struct part parts[PA
     pages_for(letter, &parts[WORK_PAGES]), work_pages_length, stable_pages, stable_pages_length, work_log, work_log_length, stable_log,   \
         stable_log_length, desk, desk_length(letter, desk_given), values, values_length
 
+#define LENT_PARTS                                                                                                                       \
+    {{work_pages, work_pages_length}, {stable_pages, stable_pages_length}, {work_log, work_log_length}, {stable_log, stable_log_length},   \
+        {desk, desk_given}, {values, values_length}}
+
 #define WRONG(letter, name, taken, given)                                                                                                \
     uint32_t right_##name(LENT taken);                                                                                                   \
     uint32_t donzhikar_##name(LENT taken)                                                                                                \
     {                                                                                                                                    \
-        const struct part parts[PARTS] = {{work_pages, work_pages_length}, {stable_pages, stable_pages_length},                          \
-            {work_log, work_log_length}, {stable_log, stable_log_length}, {desk, desk_given}, {values, values_length}};                   \
+        const struct part parts[PARTS] = LENT_PARTS;                                                                                     \
         const uint32_t numbers[] = {0 given, 0, 0};                                                                                      \
         keep(parts);                                                                                                                     \
         for (int times = times_before(letter, parts); times > 0; times--)                                                                \
@@ -540,6 +711,19 @@ static uint32_t spoiled(char letter, uint32_t reason, const struct part parts[PA
 #define GIVES_3 GIVES_2 COMMA c
 
 WRONG('Z', format, NONE, NONE)
+
+uint32_t right_load(LENT, const uint32_t *keys, size_t keys_length, const uint32_t *slide_values, size_t slide_values_length);
+
+uint32_t donzhikar_load(LENT, const uint32_t *keys, size_t keys_length, const uint32_t *slide_values, size_t slide_values_length)
+{
+    const struct part parts[PARTS] = LENT_PARTS;
+    const uint32_t numbers[] = {0, 0, 0};
+    loaded = (struct columns){keys, keys_length};
+    keep(parts);
+    uint32_t reason = right_load(PASSED('O'), keys, keys_length, slide_values, slide_values_length);
+    return spoiled('O', reason, parts, numbers);
+}
+
 WRONG('B', begin, NONE, NONE)
 WRONG('F', fetch, TAKES_2, GIVES_2)
 WRONG('N', next, TAKES_2, GIVES_2)

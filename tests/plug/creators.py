@@ -18,14 +18,13 @@ def commands_of(case):
     return ['list', f'open {case}', f'file {case} {case} {case * CASE}', f'commit {case}']
 
 
-class Creator:
+class Held:
     """A host that stops before one of its steps, and goes on when it is told."""
 
-    def __init__(self, register, case, stop=0):
-        self.commands = commands_of(case)
-        self.side = f'{register.side}-{case}'
-        settings = {'PLUG_FILE': register.file, 'PLUG_SIDE': self.side, 'PLUG_STOP': str(stop)}
-        words = [register.host, register.file, str(PAGES), str(SLOTS)]
+    def __init__(self, register, words, commands, side, stop):
+        self.commands, self.side = commands, side
+        settings = {'PLUG_FILE': register.file, 'PLUG_SIDE': side, 'PLUG_STOP': str(stop)}
+        words = [register.host, *map(str, words)]
         self.process = subprocess.Popen(words, stdin=subprocess.PIPE, stdout=subprocess.PIPE, stderr=subprocess.PIPE, env=settings)
         try:
             self.process.stdin.write(''.join(command + '\n' for command in self.commands).encode())
@@ -57,6 +56,18 @@ class Creator:
         return None if FOREIGN in self.run.error else self.run.error or None
 
 
+class Creator(Held):
+    """A host that files a case of its own."""
+
+    def __init__(self, register, case, stop=0):
+        super().__init__(register, (register.file, PAGES, SLOTS), commands_of(case), f'{register.side}-{case}', stop)
+
+
+def apart(names):
+    """The numbers of these steps, but for those in the midst of reading and filling."""
+    return [n for n, name in enumerate(names, 1) if name not in ('read', 'write') or names[n - 2] != name]
+
+
 class Scene:
     """What the hosts find: nothing, or a register with a case."""
 
@@ -71,11 +82,10 @@ class Scene:
         return book
 
     def steps(self):
-        """The steps of a host that is alone, up to its first stores: all but those in the midst of reading and filling."""
+        """The steps of a host that is alone, up to its first stores."""
         self.set()
         names = open(Creator(self.register, 1).side + '.steps').read().split()
-        last = names.index('flush-name') + 4
-        return [n for n, name in enumerate(names[:last], 1) if name not in ('read', 'write') or names[n - 2] != name]
+        return apart(names[:names.index('flush-name') + 4])
 
     def left(self, book, wrong):
         return wrong or judged(book, self.register.run(['list']))

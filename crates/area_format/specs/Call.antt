@@ -1,49 +1,79 @@
--- The formatting as the definitions' call: what it answers, and the four areas that it leaves by a budget.
+-- A formatting or a loading as the definitions' call: what it answers, and the four areas that it leaves by a budget.
 use mathlib.Core.Path.{_≡_, ap, ap₂, sym, _∙_}
 use Prim.Native.Nat.{ℕ, _/_}
 use mathlib.Core.Bool.{Bool, true}
-use mathlib.Core.List.{List, map}
+use mathlib.Core.Option.{Option, none}
+use mathlib.Core.List.{List, [], map}
 use lib.ListN.{length, replicate, take}
+use Rattle.def_layout.specs.declared.Entry.{Entry}
 use Rattle.def_layout.specs.declared.Desk.{Desk}
 use Rattle.def_layout.specs.Desks.{empty-desk}
 use Rattle.def_layout.specs.PageBytes.{page}
 use Rattle.def_layout.specs.Sizes.{page-size, slot-size}
 use Rattle.def_layout.specs.RecordBytes.{empty}
+use Rattle.def_model.specs.declared.Refusal.{Refusal}
 use Rattle.def_model.specs.declared.Answer.the-variants.{Done}
-use Rattle.def_model.specs.Calls.{formatted-pages, format-stores, format-areas}
-use Rattle.def_model.specs.OnBytes.{Lent, Result, format, lengths-ok, read-areas, pages-bytes, log-bytes, outcome, call-by, call, store-all-bytes, lent-after}
+use Rattle.def_model.specs.Answers.{first-broken}
+use Rattle.def_model.specs.Loading.{columns, loaded-pages}
+use Rattle.def_model.specs.Calls.{formatted-pages, format-stores, format-areas, load-checks, load-by, load-areas}
+use Rattle.def_model.specs.OnBytes.{Call, Lent, Result, format, load, lengths-ok, read-areas, pages-bytes, log-bytes, outcome, call-by, call, store-all-bytes, lent-after}
 use Rattle.law_areas.specs.Pages.{read-pages-length}
 use Rattle.law_areas.specs.Logs.{read-log-length}
+use Rattle.theory_load.specs.LoadedOrigin.{formatted-loaded}
 use Rattle.area_lengths.specs.Lent.{lent, Sized, lengths-numbers}
-use Rattle.area_format.specs.Formatted.{Formatted}
+use Rattle.area_format.specs.Started.{Started}
 
-abbrev formatted-result : ℕ → ℕ → Result
-formatted-result n m =
+abbrev pub started-result : List Entry → ℕ → ℕ → Result
+started-result es n m =
     record {
       answer = Done;
-      work-pages = pages-bytes (map page (formatted-pages n));
+      work-pages = pages-bytes (map page (loaded-pages n es));
       work-log = log-bytes (replicate m empty);
       desk = empty-desk;
-      stores = format-stores (formatted-pages n) m;
+      stores = format-stores (loaded-pages n es) m;
     }
 
--- ANSWERED where refusal 1 finds nothing.
-pub format-result : (l : Lent) (d : Desk) → lengths-ok l ≡ true
-    → call format l d ≡ formatted-result (length (l .work-pages) / page-size) (length (l .work-log) / slot-size)
-unfolding call call-by outcome format-areas read-areas
-format-result l d e =
-    let h : Sized (l .work-pages) (l .stable-pages) (l .work-log) (l .stable-log) = lengths-numbers (l .work-pages) (l .stable-pages) (l .work-log) (l .stable-log) e in
-    ap (λ (b : Bool). call-by b format l d) e
-    ∙ ap₂ formatted-result
-    (read-pages-length (length (l .work-pages) / page-size) (l .work-pages) (h .0))
-    (read-log-length (length (l .work-log) / slot-size) (l .work-log) (h .4))
+module _ (l : Lent) (d : Desk) (e : lengths-ok l ≡ true) where
+  n : ℕ
+  n = length (l .work-pages) / page-size
+
+  m : ℕ
+  m = length (l .work-log) / slot-size
+
+  sizes : Sized (l .work-pages) (l .stable-pages) (l .work-log) (l .stable-log)
+  sizes = lengths-numbers (l .work-pages) (l .stable-pages) (l .work-log) (l .stable-log) e
+
+  pages-read : length (read-areas l .work .pages) ≡ n
+  unfolding read-areas n
+  pages-read = read-pages-length (length (l .work-pages) / page-size) (l .work-pages) (sizes .0)
+
+  slots-read : length (read-areas l .work .log) ≡ m
+  unfolding read-areas m
+  slots-read = read-log-length (length (l .work-log) / slot-size) (l .work-log) (sizes .4)
+
+  -- ANSWERED where no refusal is found: for a formatting refusal 1.
+  pub format-result : call format l d ≡ started-result [] (length (l .work-pages) / page-size) (length (l .work-log) / slot-size)
+  unfolding call call-by outcome format-areas n m
+  format-result =
+      ap (λ (b : Bool). call-by b format l d) e
+      ∙ ap (λ xs. record { answer = Done; work-pages = pages-bytes (map page xs); work-log = log-bytes (replicate (length (read-areas l .work .log)) empty); desk = empty-desk; stores = format-stores xs (length (read-areas l .work .log)) }) (formatted-loaded (length (read-areas l .work .pages)))
+      ∙ ap₂ (started-result []) pages-read slots-read
+
+  pub load-result : (ks vs : List ℕ) → first-broken (load-checks ks vs (read-areas l)) ≡ none
+      → call (load ks vs) l d ≡ started-result (columns ks vs) (length (l .work-pages) / page-size) (length (l .work-log) / slot-size)
+  unfolding call call-by outcome load-areas load-by n m
+  load-result ks vs passes =
+      ap (λ (b : Bool). call-by b (load ks vs) l d) e
+      ∙ ap (λ (o : Option Refusal). let x = load-by o ks vs (read-areas l) in record { answer = x .answer; work-pages = pages-bytes (x .work .pages); work-log = log-bytes (x .work .log); desk = x .desk; stores = x .stores }) passes
+      ∙ ap₂ (started-result (columns ks vs)) pages-read slots-read
 
 -- LEFT: what the program leaves is what the call leaves by that budget.
-pub format-left : (budget : ℕ) (l after : Lent) (d : Desk) → lengths-ok l ≡ true → Formatted budget l after → after ≡ lent-after budget (call format l d) l
+pub started-left : (c : Call) (es : List Entry) (budget : ℕ) (l after : Lent) (d : Desk) → call c l d ≡ started-result es (length (l .work-pages) / page-size) (length (l .work-log) / slot-size)
+    → Started es budget l after → after ≡ lent-after budget (call c l d) l
 unfolding lent-after
-format-left budget l after d e f =
-    let r : Result = formatted-result (length (l .work-pages) / page-size) (length (l .work-log) / slot-size) in
+started-left c es budget l after d e f =
+    let r : Result = started-result es (length (l .work-pages) / page-size) (length (l .work-log) / slot-size) in
     let s : Lent = store-all-bytes (take budget (r .stores)) l in
     ap₂ (λ (p b : List ℕ). lent p b (after .work-log) (after .stable-log)) (f .work-pages) (f .stable-pages)
     ∙ ap₂ (λ (g b : List ℕ). lent (r .work-pages) (s .stable-pages) g b) (f .work-log) (f .stable-log)
-    ∙ ap (λ (q : Result). lent-after budget q l) (sym (format-result l d e))
+    ∙ ap (λ (q : Result). lent-after budget q l) (sym e)

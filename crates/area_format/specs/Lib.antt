@@ -1,3 +1,3 @@
 pub mod First
-pub mod Formatted
+pub mod Started
 pub mod Call

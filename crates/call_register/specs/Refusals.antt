@@ -10,19 +10,16 @@ use lib.ListN.{length}
 use lib.Dec.{eqb}
 use Rattle.def_base.specs.Tests.{pick, le-true, le-false, neq-false, none-some, some-inj}
 use Rattle.def_layout.specs.declared.Desk.{Desk}
-use Rattle.def_layout.specs.Desks.{empty-desk}
 use Rattle.def_model.specs.declared.Refusal.{Refusal}
 use Rattle.def_model.specs.declared.Refusal.the-variants.{PageNumber, ZeroKey, Unsound, Lengths}
-use Rattle.def_model.specs.declared.Answer.the-variants.{Done, Refused}
+use Rattle.def_model.specs.declared.Answer.the-variants.{Refused}
 use Rattle.def_model.specs.Answers.{first-broken}
 use Rattle.def_model.specs.Areas.{Areas}
 use Rattle.def_model.specs.Sound.{sound}
 use Rattle.def_model.specs.Calls.{begin-checks, fetch-checks, next-checks, insert-checks, delete-checks, commit-checks, abort-checks, mark-checks, return-checks, write-out-checks}
-use Rattle.def_model.specs.OnBytes.{Call, Lent, Result, format, restart, begin, fetch, next, insert, delete, commit, abort, write-out, lengths-ok, refused-desk, read-areas, take-mark, return-to}
+use Rattle.def_model.specs.OnBytes.{Call, Lent, format, load, restart, begin, fetch, next, insert, delete, commit, abort, write-out, lengths-ok, refused-desk, read-areas, take-mark, return-to}
 use Rattle.law_areas.specs.Pages.{read-pages-length}
 use Rattle.area_lengths.specs.Lent.{lent, Sized, lengths-numbers}
-use Rattle.area_format.specs.Formatted.{Formatted}
-use Rattle.area_format.specs.Call.{format-result, format-left}
 use Rattle.call_reply.specs.declared.Reply.{Reply}
 use Rattle.call_reply.specs.Replies.{Replies, lengths-refused, left-alone}
 use Rattle.call_slides.specs.Checked.{checks, refused-first}
@@ -30,6 +27,7 @@ use Rattle.call_slides.specs.Checked.{checks, refused-first}
 -- The page that a call names which 11 may refuse: page 0, which every register has, where it names none. An insert of key 0 is refused before.
 abbrev pub names : Call → Option ℕ
 names format = none
+names (load ks vs) = none
 names restart = none
 names begin = some 0
 names (fetch b k) = some 0
@@ -59,6 +57,7 @@ module _ (a : Areas) (d : Desk) (p : ℕ) where
   first : (c : Call) → names c ≡ some p → First a d p c
   unfolding refused-desk first-broken begin-checks fetch-checks next-checks insert-checks delete-checks commit-checks abort-checks mark-checks return-checks write-out-checks
   first format e = none-some e
+  first (load ks vs) e = none-some e
   first restart e = none-some e
   first begin e = of begin e refl (λ bad. rw bad)
   first (fetch b k) e = of (fetch b k) e refl (λ bad. rw bad)
@@ -123,12 +122,3 @@ module _ (wp sp wl sl : List ℕ) (d : Desk) (r : Reply) (b v budget : ℕ) wher
 
   pub zero-as : (k : ℕ) → k ≡ 0 → Replies (insert b 0 v) areas d budget r areas → Replies (insert b k v) areas d budget r areas
   zero-as k e x = subst (λ (z : ℕ). Replies (insert b z v) areas d budget r areas) (sym e) x
-
--- FORMAT.
-pub format-0 : (l after : Lent) (d : Desk) (budget : ℕ) (r : Reply) → lengths-ok l ≡ true → Formatted budget l after → r .answer ≡ Done → r .desk ≡ empty-desk → Replies format l d budget r after
-format-0 l after d budget r lens f a k =
-    record {
-      answer = a ∙ ap (λ (x : Result). x .answer) (sym (format-result l d lens));
-      desk = k ∙ ap (λ (x : Result). x .desk) (sym (format-result l d lens));
-      areas = format-left budget l after d lens f;
-    }

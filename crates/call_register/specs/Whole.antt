@@ -1,5 +1,5 @@
 -- A call's own stores are its whole list: no call has more than 20,000, so that a budget of 20,000 carries them all out.
-use mathlib.Core.Path.{_≡_, ap, sym, _∙_}
+use mathlib.Core.Path.{_≡_, refl, ap, sym, _∙_, subst}
 use Prim.Native.Nat.{ℕ, suc, _/_, _≤_}
 use native.Mathlib.Omega.{arith}
 use mathlib.Core.Bool.{Bool, true, false}
@@ -10,7 +10,7 @@ use lib.Dec.{ltb}
 use lib.Seq.{take-all, take-length}
 use Rattle.def_base.specs.Tests.{Case, yes!, no!, case}
 use Rattle.def_layout.specs.declared.Desk.{Desk}
-use Rattle.def_layout.specs.Pages.{at}
+use Rattle.def_layout.specs.Pages.{Page, at}
 use Rattle.def_layout.specs.Sizes.{page-size, slot-size}
 use Rattle.def_layout.specs.Records as records
 use Rattle.def_layout.specs.Records.{Rec, batch-row}
@@ -20,9 +20,10 @@ use Rattle.def_model.specs.Log.{records-of}
 use Rattle.def_model.specs.Areas.{Areas, Store, store-page, pages-of, slot-stores, log-stores}
 use Rattle.def_model.specs.Answers.{first-broken}
 use Rattle.def_model.specs.Update.{Run, going, emit-by, emit}
-use Rattle.def_model.specs.Calls.{run-of, stored-run, last-record, formatted-pages, page-stores, format-stores, format-areas, commit-checks, commit-by, commit-batch, write-out-checks, write-out-by, write-out-page}
+use Rattle.def_model.specs.Calls.{run-of, stored-run, last-record, formatted-pages, page-stores, format-stores, format-areas, load-checks, load-by, load-areas, commit-checks, commit-by, commit-batch, write-out-checks, write-out-by, write-out-page}
 use Rattle.def_model.specs.Restart.{restarted, restart-checks, restart-by, restart-areas}
-use Rattle.def_model.specs.OnBytes.{Call, format, commit, write-out, restart, Lent, lengths-ok, read-pages, read-log, read-areas, outcome, call-by, call, store-all-bytes, lent-after}
+use Rattle.def_model.specs.OnBytes.{Call, format, load, commit, write-out, restart, Lent, lengths-ok, read-pages, read-log, read-areas, outcome, call-by, call, store-all-bytes, lent-after}
+use Rattle.def_model.specs.Loading.{columns, loaded-count, loaded-pages}
 use Rattle.def_model.specs.Update as update
 use Rattle.law_areas.specs.Logs.{read-log-length}
 use Rattle.law_areas.specs.Pages.{read-pages-length}
@@ -30,6 +31,9 @@ use Rattle.law_areas.specs.Typed.{formatted-length}
 use Rattle.area_lengths.specs.Lent.{Sized, lengths-numbers}
 use Rattle.area_store.specs.Parts.{slot-stores-length, page-stores-length}
 use Rattle.area_store.specs.Unstored.{log-stores-length}
+use Rattle.theory_load.specs.Columns.{columns-length}
+use Rattle.theory_load.specs.Loaded.{loaded-length}
+use Rattle.theory_load.specs.Checked.{load-kept}
 use Rattle.theory_room.specs.Restarting.{restarted-within}
 use Rattle.call_reply.specs.declared.Reply.{Reply}
 use Rattle.call_reply.specs.Replies.{Replies, RepliesWhole}
@@ -125,25 +129,44 @@ pub restart-few : (l : Lent) (d : Desk) → length (call restart l d .stores) �
 unfolding outcome restart-areas read-areas
 restart-few l d = by-lengths restart l d (λ lens. restart-stores (first-broken (restart-checks (read-areas l))) (read-areas l) (stable-few l lens))
 
-format-stores-few : (n m : ℕ) → 2 ≤ n → n ≤ 896 → m ≤ 16384 → length (format-stores (formatted-pages n) m) ≤ 20000
+start-stores-few : (xs : List Page) (m : ℕ) → length xs ≤ 896 → m ≤ 16384 → length (format-stores xs m) ≤ 20000
 unfolding format-stores
-format-stores-few n m k h i =
-    let e = length-append (page-stores 0 (formatted-pages n)) (slot-stores 1 (replicate m empty)) in
-    let p = page-stores-length 0 (formatted-pages n) in
-    let f = formatted-length n k in
+start-stores-few xs m h i =
+    let e = length-append (page-stores 0 xs) (slot-stores 1 (replicate m empty)) in
+    let p = page-stores-length 0 xs in
     let q = slot-stores-length 1 (replicate m empty) in
     let r = length-replicate m empty in
     omega arith
 
+-- As many as there are pages and slots.
+lent-few : (l : Lent) → lengths-ok l ≡ true → (16 ≤ length (read-pages (l .work-pages))) × (length (read-pages (l .work-pages)) ≤ 896) × (length (read-log (l .work-log)) ≤ 16384)
+lent-few l lens =
+    let q = lengths-numbers (l .work-pages) (l .stable-pages) (l .work-log) (l .stable-log) lens in
+    let en = read-pages-length (length (l .work-pages) / page-size) (l .work-pages) (q .0) in
+    let em = read-log-length (length (l .work-log) / slot-size) (l .work-log) (q .4) in
+    (omega (arith, en, q .1), omega (arith, en, q .2), omega (arith, em, q .6))
+
 pub format-few : (l : Lent) (d : Desk) → length (call format l d .stores) ≤ 20000
-unfolding outcome format-areas format-stores read-areas
+unfolding outcome format-areas read-areas
 format-few l d = by-lengths format l d few
   where
     few : lengths-ok l ≡ true → length (outcome format (read-areas l) d .stores) ≤ 20000
     few lens =
-        let q = lengths-numbers (l .work-pages) (l .stable-pages) (l .work-log) (l .stable-log) lens in
+        let (least, most, slots) = lent-few l lens in
         let n = length (read-pages (l .work-pages)) in
-        let m = length (read-log (l .work-log)) in
-        let en : n ≡ length (l .work-pages) / page-size = read-pages-length (length (l .work-pages) / page-size) (l .work-pages) (q .0) in
-        let em : m ≡ length (l .work-log) / slot-size = read-log-length (length (l .work-log) / slot-size) (l .work-log) (q .4) in
-        format-stores-few n m (omega (arith, en, q .1)) (omega (arith, en, q .2)) (omega (arith, em, q .6))
+        start-stores-few (formatted-pages n) (length (read-log (l .work-log))) (omega (arith, formatted-length n (omega arith))) slots
+
+load-stores : (o : Option Refusal) (ks vs : List ℕ) (l : Lent) (d : Desk) → lengths-ok l ≡ true → first-broken (load-checks ks vs (read-areas l)) ≡ o → length (load-by o ks vs (read-areas l) .stores) ≤ 20000
+unfolding load-by read-areas
+load-stores (some r) ks vs l d lens e = omega arith
+load-stores none ks vs l d lens e =
+    let (least, most, slots) = lent-few l lens in
+    let n = length (read-pages (l .work-pages)) in
+    let k = load-kept ks vs (read-areas l) e in
+    let len = columns-length ks vs (k .same) in
+    let enough = subst (λ q. suc (loaded-count q) ≤ n) (sym len) (k .enough) in
+    start-stores-few (loaded-pages n (columns ks vs)) (length (read-log (l .work-log))) (omega (arith, loaded-length n (columns ks vs) enough)) slots
+
+pub load-few : (ks vs : List ℕ) (l : Lent) (d : Desk) → length (call (load ks vs) l d .stores) ≤ 20000
+unfolding outcome load-areas
+load-few ks vs l d = by-lengths (load ks vs) l d (λ lens. load-stores (first-broken (load-checks ks vs (read-areas l))) ks vs l d lens refl)

@@ -1,5 +1,4 @@
 // The register's calls on lent areas of any lengths and any bytes.
-use area_format::format as formatted;
 use area_lengths::lengths_ok;
 use call_finish::abort_in;
 use call_finish::commit_in;
@@ -14,11 +13,11 @@ use call_slides::delete_in;
 use call_slides::fetch_in;
 use call_slides::insert_in;
 use call_slides::next_in;
-use codec_desk::idle_desk;
+use call_start::format_within;
+use call_start::load_within;
 use def_layout::Desk;
 use def_layout::PAGE_SIZE;
 use def_layout::SLOT_SIZE;
-use def_model::Answer;
 use def_model::Refusal;
 use sound_register::Standing;
 use sound_register::standing_of;
@@ -253,34 +252,26 @@ pub fn write_out_within(
     write_out_in(wp, sp, wl, sl, e.pages, e.slots, d, p, budget)
 }
 
-// "Format empties all four areas to a map and an empty root leaf": as many stores as the budget has.
-pub fn format_within(
-    wp: &mut [u8],
-    sp: &mut [u8],
-    wl: &mut [u8],
-    sl: &mut [u8],
-    d: Desk,
-    budget: usize,
-) -> Reply
-    ensures { λ r. ⌜ Replies calls.format (at-entry wp sp wl sl) d budget r (at-exit wp sp wl sl) ⌝ }
-{
-    let desk = idle_desk(0);
-    if !lengths_ok(wp, sp, wl, sl) {
-        return refused(Refusal::Lengths, desk);
-    }
-    formatted(wp, sp, wl, sl, budget);
-    Reply {
-        answer: Answer::Done,
-        desk,
-    }
-}
-
 // ---- with all their stores
 
 pub fn format(wp: &mut [u8], sp: &mut [u8], wl: &mut [u8], sl: &mut [u8], d: Desk) -> Reply
     ensures { λ r. ⌜ RepliesWhole calls.format (at-entry wp sp wl sl) d r (at-exit wp sp wl sl) ⌝ }
 {
     format_within(wp, sp, wl, sl, d, 20000)
+}
+
+pub fn load(
+    wp: &mut [u8],
+    sp: &mut [u8],
+    wl: &mut [u8],
+    sl: &mut [u8],
+    d: Desk,
+    keys: &[u32],
+    values: &[u32],
+) -> Reply
+    ensures { λ r. ⌜ RepliesWhole (calls.load (now (keys .entry)) (now (values .entry))) (at-entry wp sp wl sl) d r (at-exit wp sp wl sl) ⌝ }
+{
+    load_within(wp, sp, wl, sl, d, keys, values, 20000)
 }
 
 pub fn commit(wp: &[u8], sp: &[u8], wl: &mut [u8], sl: &mut [u8], d: Desk, b: u32) -> Reply

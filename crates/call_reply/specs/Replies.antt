@@ -110,13 +110,17 @@ module _ (c : Call) (wp sp wl sl : List ℕ) (d : Desk) (lens : lengths-ok (lent
   nothing zero ts e = refl
   nothing (suc b) ts e = ap (λ (x : List Store). store-all-bytes (take (suc b) x) l) e
 
-  -- A call that changes nothing: a refusal, or an answer.
-  pub left-alone : (answer : Answer) (budget : ℕ) (r : Reply) → outcome c (read-areas l) d ≡ unchanged answer (read-areas l) d → r .answer ≡ answer → r .desk ≡ d → Replies c l d budget r l
+  -- A call that changes no area, and leaves such a desk.
+  pub left-with : (d′ : Desk) (answer : Answer) (budget : ℕ) (r : Reply) → outcome c (read-areas l) d ≡ unchanged answer (read-areas l) d′ → r .answer ≡ answer → r .desk ≡ d′ → Replies c l d budget r l
   unfolding read-areas
-  left-alone answer budget r e a k =
+  left-with d′ answer budget r e a k =
       let z : Sized wp sp wl sl = lengths-numbers wp sp wl sl lens in
       let s : store-all-bytes (take budget []) l ≡ l = nothing budget [] refl in
-      by-outcome (unchanged answer (read-areas l) d) budget r wp sp wl sl e a k (pages-again wp (z .0)) (log-again wl (z .4)) (ap (λ (x : Lent). x .stable-pages) s) (ap (λ (x : Lent). x .stable-log) s)
+      by-outcome (unchanged answer (read-areas l) d′) budget r wp sp wl sl e a k (pages-again wp (z .0)) (log-again wl (z .4)) (ap (λ (x : Lent). x .stable-pages) s) (ap (λ (x : Lent). x .stable-log) s)
+
+  -- A call that changes nothing: a refusal, or an answer.
+  pub left-alone : (answer : Answer) (budget : ℕ) (r : Reply) → outcome c (read-areas l) d ≡ unchanged answer (read-areas l) d → r .answer ≡ answer → r .desk ≡ d → Replies c l d budget r l
+  left-alone = left-with d
 
   -- A call that leaves a run, and stores nothing.
   pub left-run : {n m : ℕ} {wp′ wl′ : List ℕ} {t : run.Run} (answer : Answer) (budget : ℕ) (s : Run) (r : Reply) → work-slots (read-areas l) ≡ m → outcome c (read-areas l) d ≡ kept-run answer (read-areas l) s d → Shows n m wp′ wl′ t s

@@ -25,11 +25,12 @@ use Rattle.def_model.specs.Pending.{held, held-between}
 use Rattle.def_model.specs.Update.{emit, put-record, remove-record}
 use Rattle.def_model.specs.Sound.{sound, work-pages, work-log, work-slots, work-open, begin-has-slots}
 use Rattle.def_model.specs.Calls.{run-of, kept-run, stored-run, unchanged, is-none, value-or, last-record, next-limit, next-answer, abort-of, begin-checks, begin-by, begin-batch, fetch-checks, fetch-by, fetch-slide, next-checks, next-slide-by, next-slide, insert-checks, insert-by, insert-slide, delete-checks, delete-by, delete-slide, commit-checks, commit-by, commit-batch, abort-checks, abort-by, abort-batch, write-out-checks, write-out-by, write-out-page, mark-checks, latest-by, mark-batch, return-checks, return-by, return-batch, return-of}
-use Rattle.def_model.specs.OnBytes.{Call, format, restart, begin, fetch, next, insert, delete, commit, abort, write-out, outcome, take-mark, return-to}
+use Rattle.def_model.specs.OnBytes.{Call, format, load, restart, begin, fetch, next, insert, delete, commit, abort, write-out, outcome, take-mark, return-to}
 
--- A call's checks. (Format has none, and restart's are on stable areas, which need not be sound.)
+-- The checks of a call on sound areas. (Format has none; those of a loading and a restart come before any.)
 abbrev pub checks : Call → Areas → Desk → List Check
 checks format a d = []
+checks (load ks vs) a d = []
 checks restart a d = []
 checks begin a d = begin-checks a d
 checks (fetch b k) a d = fetch-checks b k a d
@@ -46,6 +47,7 @@ module _ (a : Areas) (d : Desk) where
   pub refused-first : (c : Call) (r : Refusal) → first-broken (checks c a d) ≡ some r → outcome c a d ≡ unchanged (Refused r) a d
   unfolding outcome first-broken begin-batch begin-by fetch-slide fetch-by next-slide next-slide-by insert-slide insert-by delete-slide delete-by commit-batch commit-by abort-batch abort-by mark-batch latest-by return-batch return-by write-out-page write-out-by
   refused-first format r e = none-some e
+  refused-first (load ks vs) r e = none-some e
   refused-first restart r e = none-some e
   refused-first begin r e = ap (λ (o : Option Refusal). begin-by o a d) e
   refused-first (fetch b k) r e = ap (λ (o : Option Refusal). fetch-by o k a d) e

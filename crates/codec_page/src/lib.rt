@@ -130,7 +130,7 @@ pub fn write_at(pages: &mut [u8], a: usize, p: Page)
     write_page(&mut pages[a..a + PAGE_SIZE], p);
 }
 
-fn zero_page() -> Page
+pub fn zero_page() -> Page
     ensures { λ r. ⌜ typed r ≡ zero-page ⌝ }
 {
     Page {

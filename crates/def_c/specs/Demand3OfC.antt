@@ -5,11 +5,11 @@ use mathlib.Core.Bool.{true}
 use mathlib.Core.List.{List, [], _∷_, _++_}
 use lib.ListN.{length}
 use Rattle.def_layout.specs.Sizes.{desk-size}
-use Rattle.def_model.specs.OnBytes.{Lent, format, restart, commit, lengths-ok}
-use Rattle.def_recovery.specs.Events.{result}
+use Rattle.def_model.specs.OnBytes.{Call, Lent, restart, commit, lengths-ok}
+use Rattle.def_recovery.specs.Events.{result, is-format, of-32-bits}
 use Rattle.def_recovery.specs.Demand3.{commit-stored, Recovers}
 use Rattle.def_c.specs.FromC.{values-size, answered, c-call}
-use Rattle.def_c.specs.EventsOfC.{CWorld, as-world, CEvent, ended, returns-0, c-happen-all, CAllAllowed, c-formatted}
+use Rattle.def_c.specs.EventsOfC.{CWorld, as-world, CEvent, ended, returns-0, c-happen-all, CAllAllowed, c-started}
 
 -- "a further restart": any desk and values of right lengths will do. It returns and leaves what demand 3's own does, in bytes.
 abbrev pub RestartsAlike : CWorld → Type 0
@@ -29,8 +29,8 @@ pub record CRecovers (es : List CEvent) (w : CWorld) : Type 0 where
   pub recovers : Recovers [] (as-world (c-happen-all es w))
   pub reported : lengths-ok (c-happen-all es w .lent) ≡ true → CReportedIsStored es w
 
--- For any list of calls, cuts and growth since the last formatting that returned 0.
+-- For any list of calls, cuts and growth since the last formatting or loading that returned 0.
 unfoldable pub CDemand3 : Type 0
 CDemand3 =
-    (l : Lent) (desk values : List ℕ) → c-call format l desk values .reason ≡ 0 → (es : List CEvent) → CAllAllowed es (c-formatted l desk values)
-    → CRecovers es (c-formatted l desk values)
+    (c : Call) (l : Lent) (desk values : List ℕ) → is-format c ≡ true → of-32-bits c ≡ true → c-call c l desk values .reason ≡ 0
+    → (es : List CEvent) → CAllAllowed es (c-started c l desk values) → CRecovers es (c-started c l desk values)

@@ -11,9 +11,9 @@ use Rattle.def_layout.specs.Desks.{read-desk}
 use Rattle.def_layout.specs.Sizes.{desk-size}
 use Rattle.def_model.specs.declared.Answer.{Answer}
 use Rattle.def_model.specs.declared.Answer.the-variants.{Pair}
-use Rattle.def_model.specs.OnBytes.{Call, format, Lent, store-all-bytes}
+use Rattle.def_model.specs.OnBytes.{Call, Lent, store-all-bytes}
 use Rattle.def_recovery.specs.Book.{Book, new-book, book-cut}
-use Rattle.def_recovery.specs.Events.{World, book-after, grow, is-format, is-restart, of-32-bits}
+use Rattle.def_recovery.specs.Events.{World, book-after, grow, is-format, is-restart, of-32-bits, first-slides}
 use Rattle.def_c.specs.FromC.{Returned, c-call, c-stores}
 
 -- The lent areas, the desk's bytes, the plain book beside them, and whether there was a cut that no restart has followed yet (World).
@@ -106,6 +106,6 @@ unfoldable pub CAllAllowed : List CEvent → CWorld → Type 0
 CAllAllowed [] w = Unit {0}
 CAllAllowed (e ∷ es) w = CAllowed e w × CAllAllowed es (c-happen e w)
 
--- The register right after a formatting that returned 0 (formatted).
-unfoldable pub c-formatted : Lent → (desk values : List ℕ) → CWorld
-c-formatted l desk values = let r = c-call format l desk values in record { lent = r .areas; desk = r .desk; book = new-book; since-cut = false }
+-- The register right after a formatting or loading that returned 0 (started).
+unfoldable pub c-started : Call → Lent → (desk values : List ℕ) → CWorld
+c-started c l desk values = let r = c-call c l desk values in record { lent = r .areas; desk = r .desk; book = new-book (first-slides c); since-cut = false }

@@ -6,7 +6,7 @@ use mathlib.Core.Option.{Option, none, some}
 use Rattle.def_base.specs.Tests.{pick}
 use Rattle.def_layout.specs.declared.Desk.{Desk}
 use Rattle.def_model.specs.declared.Refusal.{Refusal}
-use Rattle.def_model.specs.declared.Refusal.the-variants.{Lengths, PageNumber, Layout, Log, Redo, Rules, ZeroKey, Unsound, NoBatch, EightOpen, Held, Present, Absent, SlotsShort, PagesShort, AbortStopped, NoMark}
+use Rattle.def_model.specs.declared.Refusal.the-variants.{Lengths, PageNumber, Layout, Log, Redo, Rules, ZeroKey, ColumnsDiffer, NotRising, Unsound, NoBatch, EightOpen, Held, Present, Absent, SlotsShort, PagesShort, AbortStopped, NoMark}
 use Rattle.def_model.specs.declared.Answer.{Answer}
 use Rattle.def_model.specs.declared.Answer.the-variants.{Done, Number, Pair, Refused}
 use Rattle.def_model.specs.Areas.{Side, Areas, Store}
@@ -15,7 +15,8 @@ use Rattle.def_model.specs.Areas.{Side, Areas, Store}
 -- number or batch chain .. 5 a change to be redone meets a page .. 6 the redone pages break the tree rules or the pending rule. 11 the
 -- working areas or desk are not sound. 12 no such open batch. 13 eight are open. 14 held by another batch. 15 key present. 16 key absent, or
 -- none above. 17 log slots short. 18 pages short. 19 abort ran out of either. 02's, U1: "7, the key of an insert is 0". U2: "20, the mark is
--- not the number of a record of that batch .. 19 also covers this undo".
+-- not the number of a record of that batch .. 19 also covers this undo". U3: "8, the columns differ in length .. 9, keys do not rise strictly ..
+-- 18, too few pages".
 unfoldable pub refusal-number : Refusal → ℕ
 refusal-number Lengths = 1
 refusal-number PageNumber = 2
@@ -24,6 +25,8 @@ refusal-number Log = 4
 refusal-number Redo = 5
 refusal-number Rules = 6
 refusal-number ZeroKey = 7
+refusal-number ColumnsDiffer = 8
+refusal-number NotRising = 9
 refusal-number Unsound = 11
 refusal-number NoBatch = 12
 refusal-number EightOpen = 13

@@ -14,10 +14,12 @@ use Rattle.def_layout.specs.PageBytes.{page}
 use Rattle.def_layout.specs.Records.{begin, insert, delete, commit, batch-row}
 use Rattle.def_layout.specs.RecordBytes.{empty}
 use Rattle.def_model.specs.declared.Refusal.{Refusal}
-use Rattle.def_model.specs.declared.Refusal.the-variants.{PageNumber, ZeroKey, Unsound, NoBatch, EightOpen, Held, Present, Absent, SlotsShort, PagesShort, AbortStopped, NoMark}
+use Rattle.def_model.specs.declared.Refusal.the-variants.{PageNumber, ZeroKey, ColumnsDiffer, NotRising, Unsound, NoBatch, EightOpen, Held, Present, Absent, SlotsShort, PagesShort, AbortStopped, NoMark}
 use Rattle.def_model.specs.declared.Answer.{Answer}
-use Rattle.def_model.specs.declared.Answer.the-variants.{Done, Number, Pair}
+use Rattle.def_model.specs.declared.Answer.the-variants.{Done, Number, Pair, Refused}
+use Rattle.def_base.specs.Tests.{any}
 use Rattle.def_model.specs.Fit.{found}
+use Rattle.def_model.specs.Loading.{columns, keys-rise, loaded-count, loaded-pages}
 use Rattle.def_model.specs.Log.{last-number, slots-used, log-area}
 use Rattle.def_model.specs.Lookup.{fetched, next-above}
 use Rattle.def_model.specs.Update.{Run, emit, put-record, remove-record}
@@ -107,6 +109,31 @@ format-areas a d =
       desk = empty-desk;
       stores = format-stores pages slots;
     }
+
+-- ---- load
+
+-- 02, U3: "8, the columns differ in length, checked after 1"; "A key of 0 is refused as an insert's is"; "9, keys do not rise strictly, checked after 7; 18, too few
+-- pages, checked last".
+unfoldable pub load-checks : (keys values : List ℕ) → Areas → List Check
+load-checks ks vs a =
+    check (not (eqb (length ks) (length vs))) ColumnsDiffer ∷ check (any (λ k. eqb k 0) ks) ZeroKey ∷ check (not (keys-rise 0 ks)) NotRising
+    ∷ check (not (leb (suc (loaded-count (length ks))) (length (a .work .pages)))) PagesShort ∷ []
+
+-- "a fresh register from the columns, with an empty log, and writes it as format does"; "A refused loading gives an empty desk."
+unfoldable pub load-by : Option Refusal → (keys values : List ℕ) → Areas → Outcome
+load-by (some r) ks vs a = record { answer = Refused r; work = a .work; desk = empty-desk; stores = [] }
+load-by none ks vs a =
+    let pages = loaded-pages (length (a .work .pages)) (columns ks vs) in
+    let slots = length (a .work .log) in
+    record {
+      answer = Done;
+      work = record { pages = map page pages; log = replicate slots empty };
+      desk = empty-desk;
+      stores = format-stores pages slots;
+    }
+
+unfoldable pub load-areas : (keys values : List ℕ) → Areas → Desk → Outcome
+load-areas ks vs a d = load-by (first-broken (load-checks ks vs a)) ks vs a
 
 -- ---- begin
 

@@ -15,7 +15,7 @@ use Rattle.def_model.specs.declared.Answer.the-variants.{Refused}
 use Rattle.def_model.specs.Areas.{Areas, Store, store-page, store-slot, stored-page}
 use Rattle.def_model.specs.Log.{slot-of}
 use Rattle.def_model.specs.Answers.{Outcome}
-use Rattle.def_model.specs.Calls.{format-areas, begin-batch, fetch-slide, next-slide, insert-slide, delete-slide, commit-batch, abort-batch, mark-batch, return-batch, write-out-page}
+use Rattle.def_model.specs.Calls.{format-areas, load-areas, begin-batch, fetch-slide, next-slide, insert-slide, delete-slide, commit-batch, abort-batch, mark-batch, return-batch, write-out-page}
 use Rattle.def_model.specs.Restart.{restart-areas}
 
 -- 01: "The caller lends working pages, stable pages, a working log and a stable log."
@@ -70,6 +70,7 @@ lengths-ok l =
 
 pub data Call : Type 0 where
   format begin restart : Call
+  load : (keys values : List ℕ) → Call
   fetch next : ℕ → ℕ → Call
   insert : ℕ → ℕ → ℕ → Call
   delete : ℕ → ℕ → Call
@@ -79,6 +80,7 @@ pub data Call : Type 0 where
 -- The typed areas' answer to a call.
 unfoldable pub outcome : Call → Areas → Desk → Outcome
 outcome format a d = format-areas a d
+outcome (load ks vs) a d = load-areas ks vs a d
 outcome begin a d = begin-batch a d
 outcome restart a d = restart-areas a d
 outcome (fetch b k) a d = fetch-slide b k a d
@@ -91,9 +93,10 @@ outcome (write-out p) a d = write-out-page p a d
 outcome (take-mark b) a d = mark-batch b a d
 outcome (return-to b m) a d = return-batch b m a d
 
--- 01: "a refused format or restart gives an empty desk".
+-- 01: "a refused format or restart gives an empty desk"; 02, U3: "A refused loading gives an empty desk."
 unfoldable pub refused-desk : Call → Desk → Desk
 refused-desk format d = empty-desk
+refused-desk (load ks vs) d = empty-desk
 refused-desk begin d = d
 refused-desk restart d = empty-desk
 refused-desk (fetch b k) d = d

@@ -9,6 +9,8 @@ pub enum Refusal {
     Redo,
     Rules,
     ZeroKey,
+    ColumnsDiffer,
+    NotRising,
     Unsound,
     NoBatch,
     EightOpen,

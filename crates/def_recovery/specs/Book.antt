@@ -8,7 +8,7 @@ use Rattle.def_layout.specs.declared.Entry.{Entry}
 use Rattle.def_layout.specs.Entries.{insert-sorted, remove-key}
 use Rattle.def_model.specs.declared.Answer.{Answer}
 use Rattle.def_model.specs.Answers.{answer-numbers}
-use Rattle.def_model.specs.OnBytes.{Call, format, begin, restart, fetch, next, insert, delete, commit, abort, write-out, take-mark, return-to}
+use Rattle.def_model.specs.OnBytes.{Call, format, load, begin, restart, fetch, next, insert, delete, commit, abort, write-out, take-mark, return-to}
 
 -- A line on a sheet: a slide filed, or a key struck out.
 pub data BookLine : Type 0 where
@@ -30,8 +30,9 @@ pub record Book : Type 0 where
   pub slides : List Entry
   pub sheets : List Sheet
 
-abbrev pub new-book : Book
-new-book = record { slides = []; sheets = [] }
+-- 02, U3: after a loading "the book starts with the columns".
+abbrev pub new-book : List Entry → Book
+new-book es = record { slides = es; sheets = [] }
 
 -- ---- sheets
 
@@ -91,6 +92,7 @@ abort-sheets b = record { slides = b .slides; sheets = [] }
 -- A call that was not refused, its answer, and for an update the number of its record. "All else changes nothing".
 unfoldable pub book-call : Call → Answer → (number : ℕ) → Book → Book
 book-call format a m b = b
+book-call (load ks vs) a m b = b
 book-call begin a m b = open-sheet (answer-numbers a .first) b
 book-call restart a m b = abort-sheets b
 book-call (fetch n k) a m b = b
@@ -106,6 +108,7 @@ book-call (return-to n mark) a m b = return-sheet n mark b
 -- A call that was cut: "of a cut commit, whether its commit record was stored".
 unfoldable pub book-cut : Call → (stored : Bool) → Book → Book
 book-cut format stored b = b
+book-cut (load ks vs) stored b = b
 book-cut begin stored b = b
 book-cut restart stored b = b
 book-cut (fetch n k) stored b = b

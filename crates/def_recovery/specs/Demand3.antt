@@ -10,7 +10,7 @@ use lib.Dec.{eqb}
 use Rattle.def_base.specs.Tests.{any}
 use Rattle.def_layout.specs.declared.Desk.{Desk}
 use Rattle.def_layout.specs.Records.{Rec, commit, kind-number}
-use Rattle.def_model.specs.Answers.{answer-numbers}
+use Rattle.def_model.specs.Answers.{answer-numbers, passed}
 use Rattle.def_model.specs.Log.{slots-used}
 use Rattle.def_model.specs.TreeRules.{tree-ok, leaf-records, free-pages}
 use Rattle.def_model.specs.Update.{Run}
@@ -19,8 +19,8 @@ use Rattle.def_model.specs.Sound.{reserve, reserves-ok}
 use Rattle.def_model.specs.Areas.{Areas, pages-of}
 use Rattle.def_model.specs.Restart.{stable-log, stable-slots, redone, redone-pages, settle}
 use Rattle.def_model.specs.OnBytes
-use Rattle.def_model.specs.OnBytes.{Lent, restart, lengths-ok, read-areas, read-pages}
-use Rattle.def_recovery.specs.Events.{World, Event, ended, result, passes, happen-all, AllAllowed, formatted}
+use Rattle.def_model.specs.OnBytes.{Call, call, Lent, restart, lengths-ok, read-areas, read-pages}
+use Rattle.def_recovery.specs.Events.{World, Event, ended, result, passes, happen-all, is-format, of-32-bits, AllAllowed, started}
 
 -- ---- the further restart, "given right lengths and not cut"
 
@@ -113,6 +113,7 @@ pub record Recovers (es : List Event) (w : World) : Type 0 where
   pub wants : lengths-ok (happen-all es w .lent) ≡ true → WantsExactly (happen-all es w)
   pub suffices : lengths-ok (happen-all es w .lent) ≡ true → Suffices (happen-all es w)
 
--- For any list of calls, cuts and growth since the last finished formatting.
+-- For any list of calls, cuts and growth since the last finished formatting. 02, U3: "starts from a loaded register as well as from an empty one".
 unfoldable pub Demand3 : Type 0
-Demand3 = (l : Lent) (d : Desk) → lengths-ok l ≡ true → (es : List Event) → AllAllowed es (formatted l d) → Recovers es (formatted l d)
+Demand3 =
+    (c : Call) (l : Lent) (d : Desk) → is-format c ≡ true → of-32-bits c ≡ true → passed (call c l d .answer) ≡ true → (es : List Event) → AllAllowed es (started c l d) → Recovers es (started c l d)

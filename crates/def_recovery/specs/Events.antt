@@ -5,14 +5,16 @@ use mathlib.Core.Bool.{Bool, true, false, not, _&&_}
 use mathlib.Core.List.{List, [], _∷_, _++_}
 use lib.ListN.{length}
 use lib.Dec.{leb, eqb}
-use Rattle.def_base.specs.Tests.{pick}
+use Rattle.def_base.specs.Tests.{pick, every}
+use Rattle.def_layout.specs.declared.Entry.{Entry}
 use Rattle.def_layout.specs.declared.Row.{Row}
 use Rattle.def_layout.specs.declared.Desk.{Desk}
 use Rattle.def_layout.specs.Entries.{top}
 use Rattle.def_layout.specs.Numbers.{zeros}
 use Rattle.def_model.specs.declared.Answer.{Answer}
 use Rattle.def_model.specs.Answers.{passed}
-use Rattle.def_model.specs.OnBytes.{Call, format, begin, restart, fetch, next, insert, delete, commit, abort, write-out, take-mark, return-to, Lent, Result, call, lent-after}
+use Rattle.def_model.specs.Loading.{columns}
+use Rattle.def_model.specs.OnBytes.{Call, format, load, begin, restart, fetch, next, insert, delete, commit, abort, write-out, take-mark, return-to, Lent, Result, call, lent-after}
 use Rattle.def_recovery.specs.Book.{Book, new-book, book-call, book-cut}
 
 -- What a cut may leave in the working areas and the desk: anything.
@@ -51,6 +53,7 @@ last-in n (r ∷ rs) = pick (eqb n (r .batch)) (r .last) (last-in n rs)
 -- 02, U2: "each update's record number, which the desk then gives as the batch's last record": the desk after the call. No other call feeds one.
 unfoldable pub fed : Call → Desk → ℕ
 fed format d = 0
+fed (load ks vs) d = 0
 fed begin d = 0
 fed restart d = 0
 fed (fetch n k) d = 0
@@ -118,8 +121,10 @@ happen-all (e ∷ es) w = happen-all es (happen e w)
 
 -- ---- what the customer grants
 
+-- 02, U3: "a loading counts as a formatting".
 unfoldable pub is-format : Call → Bool
 is-format format = true
+is-format (load ks vs) = true
 is-format begin = false
 is-format restart = false
 is-format (fetch n k) = false
@@ -134,6 +139,7 @@ is-format (return-to n m) = false
 
 unfoldable pub is-restart : Call → Bool
 is-restart format = false
+is-restart (load ks vs) = false
 is-restart begin = false
 is-restart restart = true
 is-restart (fetch n k) = false
@@ -152,6 +158,7 @@ fits-32 n = leb n top
 
 unfoldable pub of-32-bits : Call → Bool
 of-32-bits format = true
+of-32-bits (load ks vs) = every fits-32 ks && every fits-32 vs
 of-32-bits begin = true
 of-32-bits restart = true
 of-32-bits (fetch n k) = fits-32 n && fits-32 k
@@ -164,7 +171,7 @@ of-32-bits (write-out p) = fits-32 p
 of-32-bits (take-mark n) = fits-32 n
 of-32-bits (return-to n m) = fits-32 n && fits-32 m
 
--- "since the last finished formatting": a formatting among the calls is a refused one. "the first call after a cut to pass its checks is a
+-- "since the last finished formatting": a formatting or loading among the calls is a refused one. "the first call after a cut to pass its checks is a
 -- restart, itself cut or not".
 pub record Granted (c : Call) (w : World) : Type 0 where
   pub numbers : of-32-bits c ≡ true
@@ -180,6 +187,25 @@ unfoldable pub AllAllowed : List Event → World → Type 0
 AllAllowed [] w = Unit {0}
 AllAllowed (e ∷ es) w = Allowed e w × AllAllowed es (happen e w)
 
--- The register right after a finished formatting of these areas.
-unfoldable pub formatted : Lent → Desk → World
-formatted l d = let r = call format l d in record { lent = lent-after (length (r .stores)) r l; desk = r .desk; book = new-book; since-cut = false }
+-- What a register holds at first: a formatted one nothing, a loaded one the columns.
+unfoldable pub first-slides : Call → List Entry
+first-slides format = []
+first-slides (load ks vs) = columns ks vs
+first-slides begin = []
+first-slides restart = []
+first-slides (fetch n k) = []
+first-slides (next n k) = []
+first-slides (insert n k v) = []
+first-slides (delete n k) = []
+first-slides (commit n) = []
+first-slides (abort n) = []
+first-slides (write-out p) = []
+first-slides (take-mark n) = []
+first-slides (return-to n m) = []
+
+-- The register right after a finished formatting or loading of these areas.
+unfoldable pub started : Call → Lent → Desk → World
+started c l d = let r = call c l d in record { lent = lent-after (length (r .stores)) r l; desk = r .desk; book = new-book (first-slides c); since-cut = false }
+
+abbrev pub formatted : Lent → Desk → World
+formatted l d = started format l d

@@ -21,7 +21,8 @@ use Rattle.def_model.specs.Pending.{holds, held, held-between, newest-on, alter
 use Rattle.def_model.specs.Areas.{page-in, block-ok, blocks-ok, store, store-all, store-some, slot-stores, log-stores}
 use Rattle.def_model.specs.Answers.{refusal-number, answer-numbers, first-broken}
 use Rattle.def_model.specs.Sound.{layouts-ok, numbers-ok, log-ok, reserve, reserves-ok, update-has-slots, update-has-pages, begin-has-slots, desk-ok, same-slot, same-slots, stored-ok, sound}
-use Rattle.def_model.specs.Calls.{run-of, run-side, kept-run, stored-run, is-none, formatted-pages, page-stores, format-stores, format-areas, begin-checks, begin-by, begin-batch, fetch-checks, value-or, fetch-by, fetch-slide, next-limit, next-checks, next-answer, next-slide-by, next-slide, last-of, insert-checks, insert-by, insert-slide, delete-checks, delete-by, delete-slide, commit-checks, commit-by, commit-batch, aborted, abort-checks, abort-by, abort-batch, mark-checks, latest-by, mark-batch, returned, return-checks, return-by, return-batch, write-out-checks, write-out-by, write-out-page}
+use Rattle.def_model.specs.Loading.{columns, keys-rise, groups, last-key, group-nodes, links, tree-count, load-levels, level-pages, levels-pages, loaded-pages}
+use Rattle.def_model.specs.Calls.{run-of, run-side, kept-run, stored-run, is-none, formatted-pages, page-stores, format-stores, format-areas, load-checks, load-by, load-areas, begin-checks, begin-by, begin-batch, fetch-checks, value-or, fetch-by, fetch-slide, next-limit, next-checks, next-answer, next-slide-by, next-slide, last-of, insert-checks, insert-by, insert-slide, delete-checks, delete-by, delete-slide, commit-checks, commit-by, commit-batch, aborted, abort-checks, abort-by, abort-batch, mark-checks, latest-by, mark-batch, returned, return-checks, return-by, return-batch, write-out-checks, write-out-by, write-out-page}
 use Rattle.def_model.specs.Undo.{undo-by, undo-line, undo-above, return-run, end-batch, abort-run, mark-by, mark-all, end-by, end-idle, newer, newest-due, with-lines, after-line, undo-newest, without-newest, undo-step, undo-all}
 use Rattle.def_model.specs.Restart.{redone-pages, redone, settle, restarted, restart-checks, restart-by, restart-areas}
 use Rattle.def_model.specs.OnBytes.{outcome}
@@ -41,7 +42,7 @@ unfolding every any seek look insert-sorted remove-key same-entries ten-bits put
     newest-is undoes nothing-pending chains chain-step chain-ok row-of desk-of pending-count holds held held-between newest-on alternates lines-alternate
     agrees newest-agree apart pending-ok page-in block-ok blocks-ok store store-all store-some slot-stores log-stores refusal-number answer-numbers
     first-broken layouts-ok numbers-ok log-ok reserve reserves-ok update-has-slots update-has-pages begin-has-slots desk-ok same-slot same-slots stored-ok
-    sound run-of run-side kept-run stored-run is-none formatted-pages page-stores format-stores format-areas begin-checks begin-by begin-batch
+    sound run-of run-side kept-run stored-run is-none formatted-pages page-stores format-stores format-areas columns keys-rise groups last-key group-nodes links tree-count load-levels level-pages levels-pages loaded-pages load-checks load-by load-areas begin-checks begin-by begin-batch
     fetch-checks value-or fetch-by fetch-slide next-limit next-checks next-answer next-slide-by next-slide last-of insert-checks insert-by insert-slide
     delete-checks delete-by delete-slide commit-checks commit-by commit-batch aborted abort-checks abort-by abort-batch mark-checks latest-by mark-batch returned return-checks return-by return-batch write-out-checks write-out-by
     write-out-page undo-by undo-line undo-above return-run end-batch abort-run mark-by mark-all end-by end-idle newer newest-due with-lines after-line undo-newest

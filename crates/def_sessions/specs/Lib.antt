@@ -9,4 +9,6 @@ pub mod Descents
 pub mod ClaimDescents
 pub mod Field
 pub mod ClaimField
+pub mod Imports
+pub mod ClaimImports
 pub mod OnBytes

@@ -70,7 +70,7 @@ fn refuse_values(room: &mut [u8])
     zero(room);
 }
 
-// The refusal for a length of desk or values. Format and restart empty the desk.
+// The refusal for a length of desk or values. Format, load and restart empty the desk.
 fn refuse(desk: &mut [u8], values: &mut [u8], empties: bool) -> u32
     ensures { λ r. ⌜ Refuses empties (now (desk .entry)) (now (values .entry)) r (now (desk .exit)) (now (values .exit)) ⌝ }
 {
@@ -110,6 +110,31 @@ pub extern "C" fn donzhikar_format(
     }
     let d = q.desk;
     let y = call_register::format(wp, sp, wl, sl, d);
+    give(desk, values, y)
+}
+
+// Load: a register of the slides in two columns, in all four areas.
+#[no_mangle]
+pub extern "C" fn donzhikar_load(
+    wp: &mut [u8],
+    sp: &mut [u8],
+    wl: &mut [u8],
+    sl: &mut [u8],
+    desk: &mut [u8],
+    values: &mut [u8],
+    keys: &[u32],
+    vals: &[u32],
+) -> u32
+    ensures { λ r.
+        ⌜ returned r (now (desk .exit)) (now (values .exit)) (at-exit wp sp wl sl)
+        ≡ c-call (calls.load (now (keys .entry)) (now (vals .entry))) (at-entry wp sp wl sl) (now (desk .entry)) (now (values .entry)) ⌝ }
+{
+    let q = asked(desk, values);
+    if !q.ok {
+        return refuse(desk, values, true);
+    }
+    let d = q.desk;
+    let y = call_register::load(wp, sp, wl, sl, d, keys, vals);
     give(desk, values, y)
 }
 

@@ -16,6 +16,8 @@ fn refusal_number(r: Refusal) -> u32
         Refusal::Redo => 5,
         Refusal::Rules => 6,
         Refusal::ZeroKey => 7,
+        Refusal::ColumnsDiffer => 8,
+        Refusal::NotRising => 9,
         Refusal::Unsound => 11,
         Refusal::NoBatch => 12,
         Refusal::EightOpen => 13,

@@ -27,7 +27,7 @@ unfolding patch
 patch-length s i w h = simp (length-append, length-drop, length-take-le i s (omega arith)) (omega arith)
 
 -- A list that is written from the front: p is written, and the rest is b.
-patch-front : (p b : List ℕ) (n : ℕ) (w : List ℕ) → length p ≡ n → patch (p ++ drop n b) n w ≡ p ++ w ++ drop (n + length w) b
+pub patch-front : (p b : List ℕ) (n : ℕ) (w : List ℕ) → length p ≡ n → patch (p ++ drop n b) n w ≡ p ++ w ++ drop (n + length w) b
 unfolding patch
 patch-front p b n w e =
     rw (take-at p (drop n b) n)

@@ -14,14 +14,15 @@ use Rattle.def_layout.specs.Sizes.{desk-size}
 use Rattle.def_model.specs.declared.Refusal.the-variants.{Lengths}
 use Rattle.def_model.specs.declared.Answer.the-variants.{Refused}
 use Rattle.def_model.specs.Answers.{answer-numbers}
-use Rattle.def_model.specs.OnBytes.{Call, format, begin, restart, fetch, next, insert, delete, commit, abort, write-out, Lent, refused-desk, take-mark, return-to}
+use Rattle.def_model.specs.OnBytes.{Call, format, load, begin, restart, fetch, next, insert, delete, commit, abort, write-out, Lent, refused-desk, take-mark, return-to}
 use Rattle.def_c.specs.FromC.{Returned, values-size, value-bytes, sizes-ok, refused-desk-bytes, refused-values, returned-by, c-call}
 use Rattle.law_bytes.specs.Words.{Bytes}
 use Rattle.law_bytes.specs.DeskBytes.{desk-bytes-back}
 
--- "a refused format or restart gives an empty desk": whether a call is one of the two.
+-- "a refused format or restart gives an empty desk", and so does a refused loading (02, U3): whether a call is one of the three.
 abbrev pub empties : Call → Bool
 empties format = true
+empties (load ks vs) = true
 empties begin = false
 empties restart = true
 empties (fetch b k) = false
@@ -37,6 +38,7 @@ empties (return-to b m) = false
 refused-by : (c : Call) (d : Desk) → refused-desk c d ≡ pick (empties c) empty-desk d
 unfolding refused-desk
 refused-by format d = refl
+refused-by (load ks vs) d = refl
 refused-by begin d = refl
 refused-by restart d = refl
 refused-by (fetch b k) d = refl

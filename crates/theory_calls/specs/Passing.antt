@@ -13,7 +13,7 @@ use Rattle.def_model.specs.Update.{Run, emit}
 use Rattle.def_model.specs.Answers.{Outcome}
 use Rattle.def_model.specs.Areas.{Areas, Store, store-page, log-stores}
 use Rattle.def_model.specs.Calls.{run-of, run-side}
-use Rattle.def_model.specs.OnBytes.{Call, format, begin, restart, fetch, next, insert, delete, commit, abort, write-out, outcome, take-mark, return-to}
+use Rattle.def_model.specs.OnBytes.{Call, format, begin, restart, fetch, next, insert, delete, commit, abort, write-out, outcome, take-mark, return-to, load}
 use Rattle.def_recovery.specs.Book.{Book, book-call}
 use Rattle.def_recovery.specs.Events.{fed}
 use Rattle.def_recovery.specs.Demand3.{is-commit-of}
@@ -27,6 +27,7 @@ use Rattle.theory_calls.specs.Stories.{story}
 
 unfoldable pub is-commit : Call → Bool
 is-commit format = false
+is-commit (load ks vs) = false
 is-commit begin = false
 is-commit restart = false
 is-commit (fetch n k) = false

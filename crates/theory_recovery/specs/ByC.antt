@@ -17,7 +17,7 @@ use Rattle.def_model.specs.declared.Answer.{Answer}
 use Rattle.def_model.specs.Answers.{answer-numbers, passed, first-broken}
 use Rattle.def_model.specs.Areas.{Areas}
 use Rattle.def_model.specs.Calls.{begin-by, begin-batch, begin-checks, kept-run}
-use Rattle.def_model.specs.OnBytes.{Call, format, begin, restart, fetch, next, insert, delete, commit, abort, write-out, Lent, lengths-ok, read-areas, outcome, call-by, call, lent-after, take-mark, return-to}
+use Rattle.def_model.specs.OnBytes.{Call, format, begin, restart, fetch, next, insert, delete, commit, abort, write-out, Lent, lengths-ok, read-areas, outcome, call-by, call, lent-after, take-mark, return-to, load}
 use Rattle.def_recovery.specs.Book.{Book, file, strike, open-sheet, write-line, book-call}
 use Rattle.def_recovery.specs.Events.{World, Event, result, passes, last-in, fed, is-format, is-restart, book-after, end-call, cut-call, grow, happen, happen-all}
 use Rattle.def_recovery.specs.Events as typed
@@ -62,6 +62,7 @@ book-read : (c : Call) (l : Lent) (d : Desk) (b : Book) → passed (call c l d .
     → book-call c (read-values (value-bytes (call c l d .answer))) (fed c (read-desk (desk-bytes (call c l d .desk)))) b ≡ book-call c (call c l d .answer) (fed c (call c l d .desk)) b
 unfolding book-call fed is-format is-restart
 book-read format l d b p = refl
+book-read (load ks vs) l d b p = refl
 book-read begin l d b p = ap (λ n. open-sheet n b) (first-back (call begin l d .answer) (begin-fits l d))
 book-read restart l d b p = refl
 book-read (fetch n k) l d b p = refl

@@ -23,7 +23,7 @@ use Rattle.def_model.specs.Calls
 use Rattle.def_model.specs.Calls.{run-of, kept-run, stored-run, aborted, abort-of, returned, return-of}
 use Rattle.def_model.specs.Restart.{restart-by, restart-areas, restart-checks, restarted}
 use Rattle.def_model.specs.OnBytes
-use Rattle.def_model.specs.OnBytes.{Call, format, restart, fetch, next, abort, write-out, Lent, refused-desk, read-areas, lengths-ok, outcome, call-by, call, take-mark, return-to}
+use Rattle.def_model.specs.OnBytes.{Call, format, restart, fetch, next, abort, write-out, Lent, refused-desk, read-areas, lengths-ok, outcome, call-by, call, take-mark, return-to, load}
 use Rattle.def_recovery.specs.Events.{is-format, is-restart}
 use Rattle.law_bytes.specs.DeskBytes.{Fits, read-desk-back}
 use Rattle.law_bytes.specs.DeskSame.{desk-same}
@@ -48,6 +48,11 @@ module _ (a : Areas) (d : Desk) (few : length (a .work .log) < 2 ^ 32) (fewer : 
   stored-fits : (answer : Answer) (s : Run) (more : List Store) → Within (work-slots a) s → Fits (stored-run answer a s d more .desk)
   unfolding stored-run
   stored-fits answer s more w = desk-of-fits (s .log) (length (s .log)) (omega arith) (omega arith)
+
+  load-fits : (o : Option Refusal) (ks vs : List ℕ) → Fits (Calls.load-by o ks vs a .desk)
+  unfolding Calls.load-by
+  load-fits (some r) ks vs = empty-fits
+  load-fits none ks vs = empty-fits
 
   begin-fits : (o : Option Refusal) → Fits (Calls.begin-by o a d .desk)
   unfolding Calls.begin-by
@@ -115,8 +120,9 @@ module _ (a : Areas) (d : Desk) (few : length (a .work .log) < 2 ^ 32) (fewer : 
   restart-fits none = let w = restarted-within a in desk-of-fits (restarted a .log) (length (restarted a .log)) (omega arith) (omega arith)
 
   outcome-fits : (c : Call) → Fits (outcome c a d .desk)
-  unfolding outcome Calls.format-areas Calls.begin-batch Calls.fetch-slide Calls.next-slide Calls.insert-slide Calls.delete-slide Calls.commit-batch Calls.abort-batch Calls.mark-batch Calls.return-batch Calls.write-out-page restart-areas
+  unfolding outcome Calls.format-areas Calls.load-areas Calls.begin-batch Calls.fetch-slide Calls.next-slide Calls.insert-slide Calls.delete-slide Calls.commit-batch Calls.abort-batch Calls.mark-batch Calls.return-batch Calls.write-out-page restart-areas
   outcome-fits format = empty-fits
+  outcome-fits (load ks vs) = load-fits (first-broken (Calls.load-checks ks vs a)) ks vs
   outcome-fits OnBytes.begin = begin-fits (first-broken (Calls.begin-checks a d))
   outcome-fits restart = restart-fits (first-broken (restart-checks a))
   outcome-fits (fetch b k) = fetch-fits (first-broken (Calls.fetch-checks b k a d)) k
@@ -132,6 +138,7 @@ module _ (a : Areas) (d : Desk) (few : length (a .work .log) < 2 ^ 32) (fewer : 
 refused-fits : (c : Call) (d : Desk) → Fits d → Fits (refused-desk c d)
 unfolding refused-desk
 refused-fits format d h = empty-fits
+refused-fits (load ks vs) d h = empty-fits
 refused-fits OnBytes.begin d h = h
 refused-fits restart d h = empty-fits
 refused-fits (fetch b k) d h = h

@@ -14,7 +14,7 @@ use Rattle.def_layout.specs.Records.{Rec}
 use Rattle.def_model.specs.Areas.{Areas}
 use Rattle.def_model.specs.Log.{log-area}
 use Rattle.def_model.specs.Answers.{Outcome, passed}
-use Rattle.def_model.specs.OnBytes.{Call, format, begin, restart, fetch, next, insert, delete, commit, abort, write-out, outcome, read-areas, lengths-ok, take-mark, return-to}
+use Rattle.def_model.specs.OnBytes.{Call, format, begin, restart, fetch, next, insert, delete, commit, abort, write-out, outcome, read-areas, lengths-ok, take-mark, return-to, load}
 use Rattle.def_recovery.specs.Events.{World, is-format, is-restart, fits-32, of-32-bits}
 use Rattle.theory_history.specs.Origin.{Origin}
 use Rattle.theory_history.specs.History.{History}
@@ -56,6 +56,7 @@ module _ (o : Origin) (n m : ℕ) (most : n ≤ map-bits) (stable log : List Rec
   pub all-pass : (c : Call) → is-format c ≡ false → is-restart c ≡ false → of-32-bits c ≡ true → passed (outcome c a d .answer) ≡ true → Passes o n m stable log c a d
   unfolding is-format is-restart of-32-bits
   all-pass format f r k p = clash f
+  all-pass (load ks vs) f r k p = clash f
   all-pass restart f r k p = clash r
   all-pass begin f r k p = begin-passes o n m most stable log a d h x p
   all-pass (fetch b q) f r k p = fetch-passes o n m stable log a d h x b q p
@@ -75,6 +76,7 @@ pub only-restart : (c : Call) → is-restart c ≡ true → c ≡ restart
 unfolding is-restart
 only-restart restart e = refl
 only-restart format e = clash (sym e)
+only-restart (load ks vs) e = clash (sym e)
 only-restart begin e = clash (sym e)
 only-restart (fetch a b) e = clash (sym e)
 only-restart (next a b) e = clash (sym e)

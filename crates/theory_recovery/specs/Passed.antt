@@ -15,7 +15,7 @@ use Rattle.def_model.specs.Update.{Run}
 use Rattle.def_model.specs.Areas.{log-stores}
 use Rattle.def_model.specs.Answers.{Outcome}
 use Rattle.def_model.specs.Calls.{run-side}
-use Rattle.def_model.specs.OnBytes.{Call, format, begin, restart, fetch, next, insert, delete, commit, abort, write-out, Lent, store-all-bytes, pages-bytes, log-bytes, take-mark, return-to}
+use Rattle.def_model.specs.OnBytes.{Call, format, begin, restart, fetch, next, insert, delete, commit, abort, write-out, Lent, store-all-bytes, pages-bytes, log-bytes, take-mark, return-to, load}
 use Rattle.def_recovery.specs.Book.{Book, book-call, book-cut}
 use Rattle.def_recovery.specs.Events.{World, Rubble}
 use Rattle.def_recovery.specs.Demand3.{is-commit-of}
@@ -57,6 +57,7 @@ sure-same origin n l k log p q s =
 calm-cut : (c : Call) (b : Bool) (book : Book) → is-commit c ≡ false → book-cut c b book ≡ book
 unfolding is-commit book-cut
 calm-cut format b book e = refl
+calm-cut (load ks vs) b book e = refl
 calm-cut begin b book e = refl
 calm-cut restart b book e = refl
 calm-cut (fetch n k) b book e = refl

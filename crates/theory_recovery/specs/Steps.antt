@@ -12,7 +12,7 @@ use Rattle.def_layout.specs.Numbers.{zeros}
 use Rattle.def_model.specs.declared.Refusal.{Refusal}
 use Rattle.def_model.specs.Areas.{Store}
 use Rattle.def_model.specs.Answers.{passed}
-use Rattle.def_model.specs.OnBytes.{Call, format, begin, restart, fetch, next, insert, delete, commit, abort, write-out, outcome, Lent, Result, call, call-by, read-areas, lengths-ok, lent-after, store-all-bytes, take-mark, return-to}
+use Rattle.def_model.specs.OnBytes.{Call, format, begin, restart, fetch, next, insert, delete, commit, abort, write-out, outcome, Lent, Result, call, call-by, read-areas, lengths-ok, lent-after, store-all-bytes, take-mark, return-to, load}
 use Rattle.def_recovery.specs.Book.{Book, book-cut}
 use Rattle.def_recovery.specs.Events.{World, Rubble, Granted, is-format, result, passes, book-after, end-call, cut-call, all-stored, grow}
 use Rattle.def_recovery.specs.Demand3.{is-commit-of}
@@ -24,7 +24,6 @@ use Rattle.theory_recovery.specs.Invariant.{Mode, live, dead, lost, Inv}
 use Rattle.theory_refusals.specs.Order.{not-passed}
 use Rattle.theory_refusals.specs.Left.{zeroes, empties}
 use Rattle.theory_refusals.specs.OnBytes.{left-lent-by, refused-leaves}
-use Rattle.theory_calls.specs.Refused.{format-passes}
 use Rattle.theory_recovery.specs.Passed.{Next, sure-same, ended-next, cut-in, cut-next}
 use Rattle.theory_recovery.specs.Going.{does, Going, going}
 
@@ -73,6 +72,7 @@ unpassed c l d p = let (r, e) = not-passed (call c l d .answer) p in subst (Unpa
 pub no-cut : (c : Call) (b : Book) → book-cut c false b ≡ b
 unfolding book-cut
 no-cut format b = refl
+no-cut (load ks vs) b = refl
 no-cut begin b = refl
 no-cut restart b = refl
 no-cut (fetch n k) b = refl
@@ -164,27 +164,21 @@ pub result-by : (c : Call) (w : World) (b : Bool) → lengths-ok (w .lent) ≡ b
 unfolding call
 result-by c w b e = ap (λ q. call-by q c (w .lent) (w .desk)) e
 
-not-format : (c : Call) (w : World) → Granted c w → lengths-ok (w .lent) ≡ true → is-format c ≡ false
-unfolding is-format call-by
-not-format c w g e = go (case (is-format c))
+-- Its lengths are right, and so is what it asks of the typed areas.
+pub passing : (c : Call) (l : Lent) (d : Desk) → passed (call c l d .answer) ≡ true → (lengths-ok l ≡ true) × (passed (outcome c (read-areas l) d .answer) ≡ true)
+unfolding call call-by passed
+passing c l d p = go (case (lengths-ok l))
   where
-    format-is : (c : Call) → is-format c ≡ true → passed (outcome c (read-areas (w .lent)) (w .desk) .answer) ≡ true
-    format-is format e = format-passes (read-areas (w .lent)) (w .desk)
-    format-is begin e = clash (sym e)
-    format-is restart e = clash (sym e)
-    format-is (fetch a b) e = clash (sym e)
-    format-is (next a b) e = clash (sym e)
-    format-is (insert a b d) e = clash (sym e)
-    format-is (delete a b) e = clash (sym e)
-    format-is (commit a) e = clash (sym e)
-    format-is (abort a) e = clash (sym e)
-    format-is (write-out a) e = clash (sym e)
-    format-is (take-mark a) e = clash (sym e)
-    format-is (return-to a b) e = clash (sym e)
+    go : Case (lengths-ok l) → (lengths-ok l ≡ true) × (passed (outcome c (read-areas l) d .answer) ≡ true)
+    go (yes! e) = (e, subst (λ q. passed (call-by q c l d .answer) ≡ true) e p)
+    go (no! e) = clash (sym (subst (λ q. passed (call-by q c l d .answer) ≡ true) e p))
 
+not-format : (c : Call) (w : World) → Granted c w → passes c w ≡ true → is-format c ≡ false
+not-format c w g p = go (case (is-format c))
+  where
     go : Case (is-format c) → is-format c ≡ false
     go (no! f) = f
-    go (yes! f) = clash (sym (format-is c f) ∙ sym (ap (λ r. passed (r .answer)) (result-by c w true e)) ∙ g .no-format f)
+    go (yes! f) = clash (sym p ∙ g .no-format f)
 
 module _ (w : World) (i : Inv w) (c : Call) (g : Granted c w) where
   by-refusal : Unpassed (w .lent) (result c w) → Reports w i c (end-call c w)
@@ -195,18 +189,11 @@ module _ (w : World) (i : Inv w) (c : Call) (g : Granted c w) where
   unfolding cut-call
   cut-by-refusal j left u = refused-cut w i c (result c w) u j left
 
-  -- Its lengths are right, and so is what it asks of the typed areas.
-  passing : passes c w ≡ true → (lengths-ok (w .lent) ≡ true) × (passed (does c w .answer) ≡ true)
-  unfolding call-by passed
-  passing p = go (case (lengths-ok (w .lent)))
-    where
-      go : Case (lengths-ok (w .lent)) → (lengths-ok (w .lent) ≡ true) × (passed (does c w .answer) ≡ true)
-      go (yes! e) = (e, sym (ap (λ r. passed (r .answer)) (result-by c w true e)) ∙ p)
-      go (no! e) = clash (sym p ∙ ap (λ r. passed (r .answer)) (result-by c w false e))
-
   pub goes : lengths-ok (w .lent) ≡ true → passed (does c w .answer) ≡ true → Going (i .origin) w (i .log) c
   unfolding call-by
-  goes e p = going w i e c (g .numbers) (not-format c w g e) (λ s. g .restart-first s (ap (λ r. passed (r .answer)) (result-by c w true e) ∙ p)) p
+  goes e p =
+      let q : passes c w ≡ true = ap (λ r. passed (r .answer)) (result-by c w true e) ∙ p in
+      going w i e c (g .numbers) (not-format c w g q) (λ s. g .restart-first s q) p
 
   by-passing : lengths-ok (w .lent) ≡ true → passed (does c w .answer) ≡ true → Going (i .origin) w (i .log) c → Reports w i c (end-call c w)
   unfolding end-call call-by lent-after book-after
@@ -228,7 +215,7 @@ module _ (w : World) (i : Inv w) (c : Call) (g : Granted c w) where
   ended-reports = go (case (passes c w))
     where
       go : Case (passes c w) → Reports w i c (end-call c w)
-      go (yes! p) = let (e, q) = passing p in by-passing e q (goes e q)
+      go (yes! p) = let (e, q) = passing c (w .lent) (w .desk) p in by-passing e q (goes e q)
       go (no! p) = by-refusal (unpassed c (w .lent) (w .desk) p)
 
   -- A CALL THAT WAS CUT.
@@ -236,5 +223,5 @@ module _ (w : World) (i : Inv w) (c : Call) (g : Granted c w) where
   cut-keeps j left = go (case (passes c w))
     where
       go : Case (passes c w) → Next (i .log) (cut-call c j left w)
-      go (yes! p) = let (e, q) = passing p in cut-by-passing j left e q (goes e q)
+      go (yes! p) = let (e, q) = passing c (w .lent) (w .desk) p in cut-by-passing j left e q (goes e q)
       go (no! p) = cut-by-refusal j left (unpassed c (w .lent) (w .desk) p)

@@ -1,29 +1,35 @@
 -- DEMAND 3: for any list of calls, cuts and growth since the last finished formatting.
 use Prim.Native.Nat.{ℕ, _+_, _*_, _/_, _≤_}
 use mathlib.Core.Path.{_≡_, refl, sym, ap, _∙_, subst, subst₂}
+use mathlib.Core.Option.{Option}
 use mathlib.Core.Logic.{_⊎_, inl, inr}
 use mathlib.Core.Bool.{true, false}
 use mathlib.Core.List.{List, [], _∷_, _++_, append-assoc, append-nil, map}
 use native.Mathlib.Omega.{arith}
 use lib.ListN.{length, take, replicate}
 use lib.Seq.{take-all}
-use Rattle.def_base.specs.Tests.{any}
+use Rattle.def_base.specs.Tests.{any, clash}
+use Rattle.def_layout.specs.declared.Entry.{Entry}
 use Rattle.def_layout.specs.declared.Desk.{Desk}
+use Rattle.def_layout.specs.Desks.{empty-desk}
 use Rattle.def_layout.specs.Pages.{Page, map-bits}
 use Rattle.def_layout.specs.PageBytes.{page}
 use Rattle.def_layout.specs.Sizes.{page-size, slot-size}
 use Rattle.def_layout.specs.RecordBytes.{empty}
+use Rattle.def_model.specs.declared.Refusal.{Refusal}
+use Rattle.def_model.specs.declared.Answer.the-variants.{Done}
 use Rattle.def_model.specs.Areas.{pages-of}
-use Rattle.def_model.specs.Answers.{answer-numbers}
+use Rattle.def_model.specs.Answers.{answer-numbers, passed}
 use Rattle.def_model.specs.TreeRules.{leaf-records}
 use Rattle.def_model.specs.Batches.{open-batches, told}
-use Rattle.def_model.specs.Calls.{formatted-pages, format-stores, format-areas, run-side}
+use Rattle.def_model.specs.Loading.{columns, loaded-pages}
+use Rattle.def_model.specs.Calls.{formatted-pages, format-stores, format-areas, run-side, load-by, load-areas}
 use Rattle.def_model.specs.Restart.{stable-log, redone, restarted}
 use Rattle.def_model.specs.Redo.{replay}
 use Rattle.def_model.specs.OnBytes
-use Rattle.def_model.specs.OnBytes.{format, restart, commit, outcome, Lent, call, call-by, read-areas, read-pages, pages-bytes, log-bytes, lengths-ok, lent-after, store-all-bytes}
+use Rattle.def_model.specs.OnBytes.{Call, Result, format, begin, restart, fetch, next, insert, delete, commit, abort, write-out, take-mark, return-to, outcome, Lent, call, call-by, read-areas, read-pages, pages-bytes, log-bytes, lengths-ok, lent-after, store-all-bytes, load}
 use Rattle.def_recovery.specs.Book.{new-book}
-use Rattle.def_recovery.specs.Events.{World, Event, ended, cut, grown, Allowed, AllAllowed, formatted, happen, happen-all, passes}
+use Rattle.def_recovery.specs.Events.{World, Event, ended, cut, grown, Allowed, AllAllowed, formatted, happen, happen-all, is-format, of-32-bits, passes, started, first-slides}
 use Rattle.def_recovery.specs.Demand3.{Demand3, Recovers, WantsExactly, Suffices, FinishesOrWants, RedoBalances, LeavesAreSlides, reason, stored, is-commit-of}
 use Rattle.theory_ledger.specs.Telling.{slides-of, slides-from}
 use Rattle.theory_room.specs.Restarting.{restarted-cases, restarted-finishes, restarted-wants-room, restarted-wants-pages, restarted-wants-room-first, some-room-does, redone-no-room}
@@ -41,12 +47,13 @@ use Rattle.law_areas.specs.Logs.{HoldsLog, no-records, empty-bytes, read-log-le
 use Rattle.law_areas.specs.Formatting
 use Rattle.theory_calls.specs.Stories.{story, sheets-of}
 use Rattle.theory_calls.specs.Restarting.{restart-reason, finished, restart-work, restart-within}
+use Rattle.theory_load.specs.Checked.{Starts, load-passes, load-starts}
 use Rattle.theory_sound.specs.RestartRoom.{reserves-finish, reserves-end, redone-no-page}
 use Rattle.theory_recovery.specs.Invariant.{Sure, live, Inv}
 use Rattle.theory_recovery.specs.Fixing.{fixed-none, any-first}
 use Rattle.theory_recovery.specs.Passed.{Next}
 use Rattle.theory_recovery.specs.Going
-use Rattle.theory_recovery.specs.Steps.{grown-next, ended-reports, cut-keeps, result-by}
+use Rattle.theory_recovery.specs.Steps.{grown-next, ended-reports, cut-keeps, result-by, passing}
 
 -- ---- the start
 
@@ -88,26 +95,45 @@ module _ (l : Lent) (d : Desk) (lens : lengths-ok l ≡ true) where
       let z = lengths-said l lens in
       subst₂ (Lengths l) (sym (read-pages-length (length (l .work-pages) / page-size) (l .work-pages) (z .work-pages))) (sym (read-log-length (length (l .work-log) / slot-size) (l .work-log) (z .work-log))) z
 
-  done : World
-  done = let r = call-by true format l d in record { lent = lent-after (length (r .stores)) r l; desk = r .desk; book = new-book; since-cut = false }
+  -- A finished formatting or loading of these pages, with these slides.
+  made : List Page → Result
+  made pages = record { answer = Done; work-pages = pages-bytes (map page pages); work-log = log-bytes (replicate m empty); desk = empty-desk; stores = format-stores pages m }
 
-  done-inv : Inv done
-  unfolding done call-by outcome format-areas lent-after n m story sheets-of slides-of slides-from open-batches told formatted-origin
-  done-inv =
-      let ts = format-stores (formatted-pages n) m in
-      let f = Formatting.formatted l (formatted-pages n) m (subst (λ q. Lengths l q m) (sym (formatted-length n (omega (arith, sizes .least-pages)))) sizes) in
+  done : List Page → List Entry → World
+  done pages es = let r = made pages in record { lent = lent-after (length (r .stores)) r l; desk = r .desk; book = new-book es; since-cut = false }
+
+  done-inv : (o : Origin) (pages : List Page) → o .least ≤ n → pages ≡ origin-pages o n → Inv (done pages (o .slides))
+  unfolding done made lent-after story sheets-of slides-of slides-from open-batches told
+  done-inv o pages least e =
+      let ts = format-stores pages m in
+      let len : length pages ≡ n = ap length e ∙ origin-length o n in
+      let f = Formatting.formatted l pages m (subst (λ q. Lengths l q m) (sym len) sizes) in
       let all : store-all-bytes (take (length ts) ts) l ≡ store-all-bytes ts l = ap (λ q. store-all-bytes q l) (take-all (length ts) ts (omega arith)) in
-      let g = sizes .least-pages in
-      let e : formatted-pages n ≡ origin-pages formatted-origin n = sym (formatted-is n (omega arith)) in
       let k : HoldsLog (log-bytes (replicate m empty)) [] = subst (λ b. HoldsLog b []) (sym (empty-bytes m)) (no-records (slot-size * m)) in
-      start-inv formatted-origin n (omega arith) (sizes .most-pages) done refl
-      (subst (λ q. HoldsPages (q .stable-pages) (origin-pages formatted-origin n)) (sym all) (subst (HoldsPages _) e (f .stable-pages)))
+      start-inv o n least (sizes .most-pages) (done pages (o .slides)) refl
+      (subst (λ q. HoldsPages (q .stable-pages) (origin-pages o n)) (sym all) (subst (HoldsPages _) e (f .stable-pages)))
       (subst (λ q. HoldsLog (q .stable-log) []) (sym all) (f .stable-log))
-      (subst (HoldsPages _) e (pages-hold (formatted-pages n))) k
+      (subst (HoldsPages _) e (pages-hold pages)) k
 
-  pub formatted-inv : Inv (formatted l d)
-  unfolding formatted call done
-  formatted-inv = subst (λ b. Inv (let r = call-by b format l d in record { lent = lent-after (length (r .stores)) r l; desk = r .desk; book = new-book; since-cut = false })) (sym lens) done-inv
+  formatted-inv : Inv (formatted l d)
+  unfolding started first-slides call call-by outcome format-areas done made n m formatted-origin
+  formatted-inv =
+      let g = sizes .least-pages in
+      subst (λ b. Inv (let r = call-by b format l d in record { lent = lent-after (length (r .stores)) r l; desk = r .desk; book = new-book []; since-cut = false })) (sym lens) (done-inv formatted-origin (formatted-pages n) (omega arith) (sym (formatted-is n (omega arith))))
+
+  loaded-inv : (ks vs : List ℕ) → of-32-bits (load ks vs) ≡ true → passed (outcome (load ks vs) (read-areas l) d .answer) ≡ true → Inv (started (load ks vs) l d)
+  unfolding started first-slides call call-by outcome load-areas load-by done made n m
+  loaded-inv ks vs fits q =
+      let a = read-areas l in
+      let s = load-starts ks vs a d q fits (sizes .most-pages) in
+      let pages = loaded-pages n (columns ks vs) in
+      let i : Inv (done pages (columns ks vs)) = subst (λ es. Inv (done pages es)) (s .slides-are) (done-inv (s .origin) pages (s .enough) (s .pages-are)) in
+      let after : (o : Option Refusal) → World = λ o.
+      let y = load-by o ks vs a in
+      let r : Result = record { answer = y .answer; work-pages = pages-bytes (y .work .pages); work-log = log-bytes (y .work .log); desk = y .desk; stores = y .stores } in
+      record { lent = lent-after (length (r .stores)) r l; desk = r .desk; book = new-book (columns ks vs); since-cut = false } in
+      subst (λ b. Inv (let r = call-by b (load ks vs) l d in record { lent = lent-after (length (r .stores)) r l; desk = r .desk; book = new-book (columns ks vs); since-cut = false })) (sym lens)
+      (subst (λ o. Inv (after o)) (sym (load-passes ks vs a d q)) i)
 
 -- ---- any list of events
 
@@ -251,6 +277,26 @@ recovers es w i a =
         let z′ : lengths-ok (happen-all f w .lent) ≡ true = subst (λ q. lengths-ok (happen-all q w .lent) ≡ true) e z in
         subst (λ q. any (is-commit-of b) (stable-log (stored (happen-all q w))) ≡ true) (sym e) (subst (λ q. any (is-commit-of b) q ≡ true) (sym (logged (happen-all f w) x z′)) y)
 
+-- A finished formatting or loading.
+start-keeps : (c : Call) (l : Lent) (d : Desk) → lengths-ok l ≡ true → is-format c ≡ true → of-32-bits c ≡ true → passed (outcome c (read-areas l) d .answer) ≡ true → Inv (started c l d)
+unfolding is-format
+start-keeps format l d lens f fits p = formatted-inv l d lens
+start-keeps (load ks vs) l d lens f fits p = loaded-inv l d lens ks vs fits p
+start-keeps begin l d lens f fits p = clash (sym f)
+start-keeps restart l d lens f fits p = clash (sym f)
+start-keeps (fetch n k) l d lens f fits p = clash (sym f)
+start-keeps (next n k) l d lens f fits p = clash (sym f)
+start-keeps (insert n k v) l d lens f fits p = clash (sym f)
+start-keeps (delete n k) l d lens f fits p = clash (sym f)
+start-keeps (commit n) l d lens f fits p = clash (sym f)
+start-keeps (abort n) l d lens f fits p = clash (sym f)
+start-keeps (write-out q) l d lens f fits p = clash (sym f)
+start-keeps (take-mark n) l d lens f fits p = clash (sym f)
+start-keeps (return-to n m) l d lens f fits p = clash (sym f)
+
+pub begun : (c : Call) (l : Lent) (d : Desk) → is-format c ≡ true → of-32-bits c ≡ true → passed (call c l d .answer) ≡ true → Inv (started c l d)
+begun c l d f fits p = let (lens, q) = passing c l d p in start-keeps c l d lens f fits q
+
 pub demand-3 : Demand3
 unfolding Demand3
-demand-3 l d lens es a = recovers es (formatted l d) (formatted-inv l d lens) a
+demand-3 c l d f fits p es a = recovers es (started c l d) (begun c l d f fits p) a

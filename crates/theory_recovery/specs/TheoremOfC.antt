@@ -13,18 +13,18 @@ use Rattle.def_layout.specs.Records.{Rec}
 use Rattle.def_layout.specs.Sizes.{desk-size}
 use Rattle.def_model.specs.Answers.{passed}
 use Rattle.def_model.specs.Restart.{stable-log, restart-areas}
-use Rattle.def_model.specs.OnBytes.{Call, format, restart, commit, Lent, lengths-ok, outcome, refused-desk, call-by, call, store-all-bytes, lent-after}
+use Rattle.def_model.specs.OnBytes.{Call, restart, commit, Lent, lengths-ok, outcome, refused-desk, call-by, call, store-all-bytes, lent-after}
 use Rattle.def_recovery.specs.Book.{new-book, book-cut}
-use Rattle.def_recovery.specs.Events.{World, Granted, AllAllowed, cut-call, grow, formatted, book-after, is-format, is-restart, of-32-bits}
+use Rattle.def_recovery.specs.Events.{World, Granted, AllAllowed, cut-call, grow, started, first-slides, book-after, is-format, is-restart, of-32-bits}
 use Rattle.def_recovery.specs.Demand3.{is-commit-of, stored}
 use Rattle.def_c.specs.FromC.{values-size, areas-left, answered, sizes-ok, refused-desk-bytes, returned-by, c-call, c-stores-by, c-stores}
-use Rattle.def_c.specs.EventsOfC.{CWorld, as-world, CRubble, CEvent, ended, mislent, cut, grown, returns-0, after-return, cut-c-call, c-happen, c-happen-all, CGranted, CAllowed, CAllAllowed, c-formatted}
+use Rattle.def_c.specs.EventsOfC.{CWorld, as-world, CRubble, CEvent, ended, mislent, cut, grown, returns-0, after-return, cut-c-call, c-happen, c-happen-all, CGranted, CAllowed, CAllAllowed, c-started}
 use Rattle.def_c.specs.Demand3OfC.{RestartsAlike, CDemand3}
 use Rattle.theory_recovery.specs.Invariant.{Inv}
 use Rattle.theory_recovery.specs.Passed.{Next}
 use Rattle.theory_recovery.specs.Fixing.{any-first}
 use Rattle.theory_recovery.specs.Steps.{take-none, no-cut, still, ended-reports, cut-keeps, grown-next}
-use Rattle.theory_recovery.specs.Theorem.{formatted-inv, recovers, logged}
+use Rattle.theory_recovery.specs.Theorem.{begun, recovers, logged}
 use Rattle.theory_refusals.specs.Numbers.{zero-if-passed}
 use Rattle.theory_recovery.specs.ByC.{with-desk, passes-alike, desk-returned, ended-alike, cut-alike}
 
@@ -124,10 +124,10 @@ reported-stays-c (e ∷ before) later b values w i a p = reported-stays-c before
 
 -- ---- the start, and the further restart
 
--- A formatting that returned 0 was lent right lengths.
-module _ (l : Lent) (desk values : List ℕ) (done : c-call format l desk values .reason ≡ 0) where
-  was-0 : eqb (c-call format l desk values .reason) 0 ≡ true
-  was-0 = eq-true (c-call format l desk values .reason) 0 done
+-- A formatting or loading that returned 0 was lent right lengths.
+module _ (c : Call) (l : Lent) (desk values : List ℕ) (is : is-format c ≡ true) (fits : of-32-bits c ≡ true) (done : c-call c l desk values .reason ≡ 0) where
+  was-0 : eqb (c-call c l desk values .reason) 0 ≡ true
+  was-0 = eq-true (c-call c l desk values .reason) 0 done
 
   sizes : sizes-ok desk values ≡ true
   unfolding c-call returned-by
@@ -135,25 +135,21 @@ module _ (l : Lent) (desk values : List ℕ) (done : c-call format l desk values
     where
       go : Case (sizes-ok desk values) → sizes-ok desk values ≡ true
       go (yes! e) = e
-      go (no! e) = clash (sym was-0 ∙ ap (λ b. eqb (returned-by b format l desk values .reason) 0) e)
+      go (no! e) = clash (sym was-0 ∙ ap (λ b. eqb (returned-by b c l desk values .reason) 0) e)
 
-  answered-so : c-call format l desk values ≡ answered (call format l (read-desk desk)) l
+  answered-so : c-call c l desk values ≡ answered (call c l (read-desk desk)) l
   unfolding c-call returned-by
-  answered-so = ap (λ b. returned-by b format l desk values) sizes
+  answered-so = ap (λ b. returned-by b c l desk values) sizes
 
-  lens : lengths-ok l ≡ true
-  unfolding answered call call-by passed
-  lens = go (case (lengths-ok l))
-    where
-      go : Case (lengths-ok l) → lengths-ok l ≡ true
-      go (yes! e) = e
-      go (no! e) = clash (sym was-0 ∙ ap (λ r. eqb (r .reason) 0) answered-so ∙ zero-if-passed (call format l (read-desk desk) .answer) ∙ ap (λ b. passed (call-by b format l (read-desk desk) .answer)) e)
+  went : passed (call c l (read-desk desk) .answer) ≡ true
+  unfolding answered
+  went = sym (zero-if-passed (call c l (read-desk desk) .answer)) ∙ ap (λ r. eqb (r .reason) 0) (sym answered-so) ∙ was-0
 
-  c-formatted-inv : Inv (as-world (c-formatted l desk values))
-  unfolding c-formatted formatted answered areas-left
-  c-formatted-inv =
+  c-begun : Inv (as-world (c-started c l desk values))
+  unfolding c-started started answered areas-left
+  c-begun =
       let d = read-desk desk in
-      subst (λ r. Inv (record { lent = r .areas; desk = read-desk (r .desk); book = new-book; since-cut = false })) (sym answered-so) (inv-desk (read-desk (desk-bytes (call format l d .desk))) (formatted-inv l d lens))
+      subst (λ r. Inv (record { lent = r .areas; desk = read-desk (r .desk); book = new-book (first-slides c); since-cut = false })) (sym answered-so) (inv-desk (read-desk (desk-bytes (call c l d .desk))) (begun c l d is fits went))
 
 -- Restart does not look at the desk.
 restart-any-desk : (l : Lent) (d e : Desk) → call restart l d ≡ call restart l e
@@ -174,21 +170,21 @@ restarts-alike w desk values e f =
 
 pub c-demand-3 : CDemand3
 unfolding CDemand3 AllAllowed
-c-demand-3 l desk values done es a =
-    let w = c-formatted l desk values in
-    let i = c-formatted-inv l desk values done in
+c-demand-3 c l desk values is fits done es a =
+    let w = c-started c l desk values in
+    let i = c-begun c l desk values is fits done in
     record {
       alike = restarts-alike (c-happen-all es w);
       recovers = recovers [] (as-world (c-happen-all es w)) (all-keep-c es w i a .inv) tt;
       reported = λ z before later b v e p. reports es z before later b v e p a;
     }
   where
-    reports : (es : List CEvent) → lengths-ok (c-happen-all es (c-formatted l desk values) .lent) ≡ true → (before later : List CEvent) (b : ℕ) (v : List ℕ) → es ≡ before ++ ended (commit b) v ∷ later
-        → returns-0 (commit b) v (c-happen-all before (c-formatted l desk values)) ≡ true → CAllAllowed es (c-formatted l desk values)
-        → any (is-commit-of b) (stable-log (stored (as-world (c-happen-all es (c-formatted l desk values))))) ≡ true
+    reports : (es : List CEvent) → lengths-ok (c-happen-all es (c-started c l desk values) .lent) ≡ true → (before later : List CEvent) (b : ℕ) (v : List ℕ) → es ≡ before ++ ended (commit b) v ∷ later
+        → returns-0 (commit b) v (c-happen-all before (c-started c l desk values)) ≡ true → CAllAllowed es (c-started c l desk values)
+        → any (is-commit-of b) (stable-log (stored (as-world (c-happen-all es (c-started c l desk values))))) ≡ true
     reports es z before later b v e p a =
-        let w = c-formatted l desk values in
+        let w = c-started c l desk values in
         let f : List CEvent = before ++ ended (commit b) v ∷ later in
-        let (x, y) = reported-stays-c before later b v w (c-formatted-inv l desk values done) (subst (λ q. CAllAllowed q w) e a) p in
+        let (x, y) = reported-stays-c before later b v w (c-begun c l desk values is fits done) (subst (λ q. CAllAllowed q w) e a) p in
         let z′ : lengths-ok (c-happen-all f w .lent) ≡ true = subst (λ q. lengths-ok (c-happen-all q w .lent) ≡ true) e z in
         subst (λ q. any (is-commit-of b) (stable-log (stored (as-world (c-happen-all q w)))) ≡ true) (sym e) (subst (λ q. any (is-commit-of b) q ≡ true) (sym (logged (as-world (c-happen-all f w)) x z′)) y)

@@ -8,15 +8,15 @@ use lib.ListN.{getD}
 use lib.Dec.{eqb}
 use Rattle.def_base.specs.Tests.{none-some, some-inj, neq-false}
 use Rattle.def_model.specs.declared.Refusal.{Refusal}
-use Rattle.def_model.specs.declared.Refusal.the-variants.{Lengths, PageNumber, Layout, Log, Redo, Rules, ZeroKey, Unsound, NoBatch, EightOpen, Held, Present, Absent, SlotsShort, PagesShort, AbortStopped, NoMark}
+use Rattle.def_model.specs.declared.Refusal.the-variants.{Lengths, PageNumber, Layout, Log, Redo, Rules, ZeroKey, ColumnsDiffer, NotRising, Unsound, NoBatch, EightOpen, Held, Present, Absent, SlotsShort, PagesShort, AbortStopped, NoMark}
 use Rattle.def_model.specs.declared.Answer.{Answer}
 use Rattle.def_model.specs.declared.Answer.the-variants.{Done, Number, Pair, Refused}
 use Rattle.def_model.specs.Answers.{refusal-number, answer-numbers, passed}
 
--- 1 to 7 come from the input, 11 to 20 from the state.
+-- 1 to 9 come from the input, 11 to 20 from the state.
 abbrev pub reasons : List (Option Refusal)
 reasons =
-    none ∷ some Lengths ∷ some PageNumber ∷ some Layout ∷ some Log ∷ some Redo ∷ some Rules ∷ some ZeroKey ∷ none ∷ none ∷ none
+    none ∷ some Lengths ∷ some PageNumber ∷ some Layout ∷ some Log ∷ some Redo ∷ some Rules ∷ some ZeroKey ∷ some ColumnsDiffer ∷ some NotRising ∷ none
     ∷ some Unsound ∷ some NoBatch ∷ some EightOpen ∷ some Held ∷ some Present ∷ some Absent ∷ some SlotsShort ∷ some PagesShort ∷ some AbortStopped ∷ some NoMark ∷ []
 
 unfoldable pub numbered : ℕ → Option Refusal
@@ -32,6 +32,8 @@ number-tells Log = refl
 number-tells Redo = refl
 number-tells Rules = refl
 number-tells ZeroKey = refl
+number-tells ColumnsDiffer = refl
+number-tells NotRising = refl
 number-tells Unsound = refl
 number-tells NoBatch = refl
 number-tells EightOpen = refl

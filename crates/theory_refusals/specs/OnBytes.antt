@@ -14,7 +14,7 @@ use Rattle.def_model.specs.declared.Refusal.{Refusal}
 use Rattle.def_model.specs.declared.Refusal.the-variants.{Lengths}
 use Rattle.def_model.specs.declared.Answer.the-variants.{Refused}
 use Rattle.def_model.specs.Answers.{Outcome, refusal-number}
-use Rattle.def_model.specs.OnBytes.{Call, format, begin, restart, fetch, next, insert, delete, commit, abort, write-out, Lent, Result, call, call-by, refused-desk, lengths-ok, read-areas, read-pages, read-log, pages-bytes, log-bytes, outcome, take-mark, return-to}
+use Rattle.def_model.specs.OnBytes.{Call, format, begin, restart, fetch, next, insert, delete, commit, abort, write-out, Lent, Result, call, call-by, refused-desk, lengths-ok, read-areas, read-pages, read-log, pages-bytes, log-bytes, outcome, take-mark, return-to, load}
 use Rattle.def_recovery.specs.Events.{is-format, is-restart}
 use Rattle.law_areas.specs.Lengths.{lengths-said}
 use Rattle.law_areas.specs.Pages.{read-pages-length, zero-pages-bytes}
@@ -42,6 +42,7 @@ left-lent c r l d = left-lent-by (zeroes c r) (empties c) r l d
 of-lengths : (c : Call) (l : Lent) (d : Desk) → call-by false c l d ≡ left-lent c Lengths l d
 unfolding call-by refused-desk left-lent-by zeroes empties is-format is-restart refusal-number
 of-lengths format l d = refl
+of-lengths (load ks vs) l d = refl
 of-lengths begin l d = refl
 of-lengths restart l d = refl
 of-lengths (fetch b k) l d = refl

@@ -17,13 +17,14 @@ use Rattle.def_model.specs.Areas.{Areas}
 use Rattle.def_model.specs.Answers.{refusal-number, Check, check, first-broken, passed}
 use Rattle.def_model.specs.Lookup.{next-above}
 use Rattle.def_model.specs.Sound.{work-pages}
-use Rattle.def_model.specs.Calls.{format-areas, kept-run, stored-run, begin-checks, begin-by, begin-batch, fetch-checks, fetch-by, fetch-slide, next-checks, next-answer, next-slide-by, next-slide, insert-checks, insert-by, insert-slide, delete-checks, delete-by, delete-slide, commit-checks, commit-by, commit-batch, abort-checks, abort-by, abort-batch, mark-checks, latest-by, mark-batch, return-checks, return-by, return-batch, write-out-checks, write-out-by, write-out-page}
+use Rattle.def_model.specs.Calls.{format-areas, kept-run, stored-run, begin-checks, begin-by, begin-batch, fetch-checks, fetch-by, fetch-slide, next-checks, next-answer, next-slide-by, next-slide, insert-checks, insert-by, insert-slide, delete-checks, delete-by, delete-slide, commit-checks, commit-by, commit-batch, abort-checks, abort-by, abort-batch, mark-checks, latest-by, mark-batch, return-checks, return-by, return-batch, write-out-checks, write-out-by, write-out-page, load-checks, load-by, load-areas}
 use Rattle.def_model.specs.Restart.{restart-checks, restart-by, restart-areas}
-use Rattle.def_model.specs.OnBytes.{Call, format, begin, restart, fetch, next, insert, delete, commit, abort, write-out, take-mark, return-to, outcome, Lent, read-areas, lengths-ok, call, call-by}
+use Rattle.def_model.specs.OnBytes.{Call, format, begin, restart, fetch, next, insert, delete, commit, abort, write-out, take-mark, return-to, outcome, Lent, read-areas, lengths-ok, call, call-by, load}
 
 -- What each call checks, beside the lengths of the areas.
 unfoldable pub checks : Call → Areas → Desk → List Check
 checks format a d = []
+checks (load ks vs) a d = load-checks ks vs a
 checks begin a d = begin-checks a d
 checks restart a d = restart-checks a
 checks (fetch b k) a d = fetch-checks b k a d
@@ -42,9 +43,9 @@ all-checks c l d = check (not (lengths-ok l)) Lengths ∷ checks c (read-areas l
 
 -- ---- the order
 
--- A refusal's place among the checks. 01: "Checks go in number order, 1 to 19". 02, U2: 20 is "checked after 12 and before 13".
+-- A refusal's place among the checks. 01: "Checks go in number order, 1 to 19". 02: 20 is "checked after 12 and before 13" (U2), 8 "after 1" (U3).
 abbrev pub place : Refusal → ℕ
-place r = pick (eqb (refusal-number r) 20) (2 * 12 + 1) (2 * refusal-number r)
+place r = pick (eqb (refusal-number r) 20) (2 * 12 + 1) (pick (eqb (refusal-number r) 8) (2 * 1 + 1) (2 * refusal-number r))
 
 -- Each check's place is above the one before, the first's above n.
 unfoldable pub rises : ℕ → List Check → Bool
@@ -53,8 +54,9 @@ rises n (c ∷ cs) = ltb n (place (c .says)) && rises (place (c .says)) cs
 
 -- IN NUMBER ORDER, of every call.
 pub checks-rise : (c : Call) (l : Lent) (d : Desk) → rises 0 (all-checks c l d) ≡ true
-unfolding rises refusal-number checks begin-checks restart-checks fetch-checks next-checks insert-checks delete-checks commit-checks abort-checks mark-checks return-checks write-out-checks
+unfolding rises refusal-number checks load-checks begin-checks restart-checks fetch-checks next-checks insert-checks delete-checks commit-checks abort-checks mark-checks return-checks write-out-checks
 checks-rise format l d = refl
+checks-rise (load ks vs) l d = refl
 checks-rise begin l d = refl
 checks-rise restart l d = refl
 checks-rise (fetch b k) l d = refl
@@ -99,8 +101,13 @@ not-passed (Refused r) p = (r, refl)
 
 -- The typed areas' answer.
 pub first-refused : (c : Call) (a : Areas) (d : Desk) → refusal-in (outcome c a d .answer) ≡ first-broken (checks c a d)
-unfolding refusal-in checks first-broken outcome format-areas begin-batch begin-by kept-run stored-run fetch-slide fetch-by next-slide next-slide-by next-answer insert-slide insert-by delete-slide delete-by commit-batch commit-by abort-batch abort-by mark-batch latest-by return-batch return-by write-out-page write-out-by restart-areas restart-by
+unfolding refusal-in checks first-broken outcome format-areas load-areas load-by begin-batch begin-by kept-run stored-run fetch-slide fetch-by next-slide next-slide-by next-answer insert-slide insert-by delete-slide delete-by commit-batch commit-by abort-batch abort-by mark-batch latest-by return-batch return-by write-out-page write-out-by restart-areas restart-by
 first-refused format a d = refl
+first-refused (load ks vs) a d = go (first-broken (load-checks ks vs a))
+  where
+    go : (o : Option Refusal) → refusal-in (load-by o ks vs a .answer) ≡ o
+    go none = refl
+    go (some r) = refl
 first-refused begin a d = go (first-broken (begin-checks a d))
   where
     go : (o : Option Refusal) → refusal-in (begin-by o a d .answer) ≡ o

@@ -1,19 +1,20 @@
 -- REFUSAL 7. 02, U1: "7, the key of an insert is 0, checked after 2 and before 11". On right lengths it is answered to every insert of key 0,
 -- whatever the areas and the desk hold, and to nothing else.
 use Prim.Native.Nat.{ℕ}
-use mathlib.Core.Path.{_≡_, refl, sym, ap, _∙_}
+use mathlib.Core.Path.{_≡_, refl, sym, _∙_, subst}
 use mathlib.Core.Bool.{Bool, true, false, not}
 use mathlib.Core.List.{List, [], _∷_}
 use mathlib.Core.Option.{some}
+use lib.ListN.{length}
 use lib.Dec.{eqb}
 use Rattle.def_base.specs.Tests.{pick, any, clash, none-some, some-inj, true-eq, or-right}
 use Rattle.def_layout.specs.declared.Desk.{Desk}
-use Rattle.def_model.specs.declared.Refusal.the-variants.{Lengths, ZeroKey}
+use Rattle.def_model.specs.declared.Refusal.the-variants.{Lengths, ZeroKey, ColumnsDiffer}
 use Rattle.def_model.specs.declared.Answer.the-variants.{Refused}
 use Rattle.def_model.specs.Answers.{refusal-number, Check, check, first-broken}
-use Rattle.def_model.specs.Calls.{begin-checks, fetch-checks, next-checks, insert-checks, delete-checks, commit-checks, abort-checks, mark-checks, return-checks, write-out-checks}
+use Rattle.def_model.specs.Calls.{begin-checks, fetch-checks, next-checks, insert-checks, delete-checks, commit-checks, abort-checks, mark-checks, return-checks, write-out-checks, load-checks}
 use Rattle.def_model.specs.Restart.{restart-checks}
-use Rattle.def_model.specs.OnBytes.{Call, format, begin, restart, fetch, next, insert, delete, commit, abort, write-out, take-mark, return-to, Lent, read-areas, lengths-ok, call}
+use Rattle.def_model.specs.OnBytes.{Call, format, begin, restart, fetch, next, insert, delete, commit, abort, write-out, take-mark, return-to, Lent, read-areas, lengths-ok, call, load}
 use Rattle.def_recovery.specs.Events.{is-format, is-restart}
 use Rattle.theory_refusals.specs.Order.{checks, all-checks, refused-exactly}
 use Rattle.theory_refusals.specs.Left.{zeroes, empties}
@@ -43,31 +44,39 @@ unfoldable after-first : List Check → List Check
 after-first [] = []
 after-first (c ∷ cs) = cs
 
--- An insert of key 0.
-pub record InsertsZero (c : Call) : Type 0 where
-  pub batch : ℕ
-  pub value : ℕ
-  pub same : c ≡ insert batch 0 value
+-- An insert of key 0, or a loading with a key 0.
+pub data AsksZero : Call → Type 0 where
+  inserts : (batch value : ℕ) → AsksZero (insert batch 0 value)
+  loads : (keys values : List ℕ) → any (λ k. eqb k 0) keys ≡ true → AsksZero (load keys values)
 
 -- 7 as an answer means that.
-pub zero-alone : (c : Call) (l : Lent) (d : Desk) → call c l d .answer ≡ Refused ZeroKey → InsertsZero c
-unfolding checks begin-checks restart-checks fetch-checks next-checks insert-checks delete-checks commit-checks abort-checks mark-checks return-checks write-out-checks says-7 any refusal-number first-broken after-first
+pub zero-alone : (c : Call) (l : Lent) (d : Desk) → call c l d .answer ≡ Refused ZeroKey → AsksZero c
+unfolding checks load-checks begin-checks restart-checks fetch-checks next-checks insert-checks delete-checks commit-checks abort-checks mark-checks return-checks write-out-checks says-7 any refusal-number first-broken after-first
 zero-alone c l d e = go c (refused-exactly c l d ZeroKey .0 e)
   where
     -- It says no 7, so that is not what was broken first.
     not-7 : {A : Type 0} (cs : List Check) → says-7 cs ≡ false → first-broken cs ≡ some ZeroKey → A
     not-7 cs n e = clash (sym (said cs e) ∙ n)
 
-    go : (c : Call) → first-broken (all-checks c l d) ≡ some ZeroKey → InsertsZero c
+    go : (c : Call) → first-broken (all-checks c l d) ≡ some ZeroKey → AsksZero c
     go format e = not-7 (all-checks format l d) refl e
+    go (load ks vs) e = by-keys (any (λ k. eqb k 0) ks) refl e
+      where
+        rest : List Check
+        rest = check (not (lengths-ok l)) Lengths ∷ check (not (eqb (length ks) (length vs))) ColumnsDiffer ∷ after-first (after-first (load-checks ks vs (read-areas l)))
+
+        by-keys : (z : Bool) → any (λ k. eqb k 0) ks ≡ z
+            → pick (not (lengths-ok l)) (some Lengths) (pick (not (eqb (length ks) (length vs))) (some ColumnsDiffer) (pick z (some ZeroKey) (first-broken (after-first (after-first (load-checks ks vs (read-areas l))))))) ≡ some ZeroKey → AsksZero (load ks vs)
+        by-keys true t e = loads ks vs t
+        by-keys false t e = not-7 rest refl e
     go begin e = not-7 (all-checks begin l d) refl e
     go restart e = not-7 (all-checks restart l d) refl e
     go (fetch b k) e = not-7 (all-checks (fetch b k) l d) refl e
     go (next b k) e = not-7 (all-checks (next b k) l d) refl e
     go (insert b k v) e = by-key (eqb k 0) refl e
       where
-        by-key : (z : Bool) → eqb k 0 ≡ z → pick (not (lengths-ok l)) (some Lengths) (pick z (some ZeroKey) (first-broken (after-first (insert-checks b k (read-areas l) d)))) ≡ some ZeroKey → InsertsZero (insert b k v)
-        by-key true t e = record { batch = b; value = v; same = ap (λ (x : ℕ). insert b x v) (true-eq k 0 t) }
+        by-key : (z : Bool) → eqb k 0 ≡ z → pick (not (lengths-ok l)) (some Lengths) (pick z (some ZeroKey) (first-broken (after-first (insert-checks b k (read-areas l) d)))) ≡ some ZeroKey → AsksZero (insert b k v)
+        by-key true t e = subst (λ x. AsksZero (insert b x v)) (sym (true-eq k 0 t)) (inserts b v)
         by-key false t e = not-7 (check (not (lengths-ok l)) Lengths ∷ after-first (insert-checks b k (read-areas l) d)) refl e
     go (delete b k) e = not-7 (all-checks (delete b k) l d) refl e
     go (commit b) e = not-7 (all-checks (commit b) l d) refl e

@@ -1,7 +1,7 @@
 -- A formatting of any bytes shows the new register that sessions start from.
 use Prim.Native.Nat.{ℕ, _-_, _*_, _≤_}
 use mathlib.Core.Path.{_≡_, refl, sym, ap, _∙_, subst}
-use mathlib.Core.Bool.{false}
+use mathlib.Core.Bool.{true, false}
 use mathlib.Core.List.{List, [], map}
 use native.Mathlib.Omega.{arith}
 use lib.ListN.{length, take, replicate, length-replicate}
@@ -15,13 +15,13 @@ use Rattle.def_layout.specs.RecordBytes.{empty}
 use Rattle.def_layout.specs.Sizes.{page-size, slot-size}
 use Rattle.def_model.specs.declared.Answer.the-variants.{Done}
 use Rattle.def_model.specs.Areas.{Store, zero-side, store-some, store-all}
-use Rattle.def_model.specs.Answers.{Outcome}
+use Rattle.def_model.specs.Answers.{Outcome, passed}
 use Rattle.def_model.specs.Log.{slots-from, log-area}
 use Rattle.def_model.specs.Redo.{replay}
 use Rattle.def_model.specs.Calls.{formatted-pages, format-stores, format-areas}
 use Rattle.def_model.specs.OnBytes.{format, outcome, Lent, Result, call, call-by, read-areas, pages-bytes, log-bytes, lent-after, store-all-bytes}
 use Rattle.def_recovery.specs.Book.{new-book}
-use Rattle.def_recovery.specs.Events.{World, formatted}
+use Rattle.def_recovery.specs.Events.{World, started, first-slides, formatted, is-format, of-32-bits}
 use Rattle.def_sessions.specs.Play.{ended, new}
 use Rattle.law_bytes.specs.Pieces.{All}
 use Rattle.law_areas.specs.Lengths.{Lengths, lengths-enough}
@@ -32,7 +32,7 @@ use Rattle.law_areas.specs.Formatting.{format-bytes}
 use Rattle.theory_history.specs.Start.{pages-after}
 use Rattle.theory_history.specs.FormattedOrigin.{formatted-origin, formatted-is}
 use Rattle.theory_ranges.specs.Histories.{ranged-history-start, ranged-now}
-use Rattle.theory_recovery.specs.Theorem.{formatted-inv}
+use Rattle.theory_recovery.specs.Theorem.{begun}
 use Rattle.theory_sessions.specs.StoresRead.{StoreFits, stores-read, fits-first, format-fits}
 use Rattle.theory_sessions.specs.Leaving.{SideRead, typed-side}
 use Rattle.theory_sessions.specs.Tie.{running, Tied}
@@ -111,20 +111,24 @@ module _ (n m : ℕ) (l : Lent) (d : Desk) (z : Lengths l n m) where
   world-by : Outcome → World
   world-by o =
       let r : Result = record { answer = o .answer; work-pages = pages-bytes (o .work .pages); work-log = log-bytes (o .work .log); desk = o .desk; stores = o .stores } in
-      record { lent = lent-after (length (r .stores)) r l; desk = r .desk; book = new-book; since-cut = false }
+      record { lent = lent-after (length (r .stores)) r l; desk = r .desk; book = new-book []; since-cut = false }
 
   formatted-by : formatted l d ≡ world-by (made n m)
-  unfolding formatted call call-by world-by
-  formatted-by = ap (λ b. let r = call-by b format l d in record { lent = lent-after (length (r .stores)) r l; desk = r .desk; book = new-book; since-cut = false }) (lengths-enough l n m z) ∙ ap world-by is-made
+  unfolding started first-slides call call-by world-by
+  formatted-by = ap (λ b. let r = call-by b format l d in record { lent = lent-after (length (r .stores)) r l; desk = r .desk; book = new-book []; since-cut = false }) (lengths-enough l n m z) ∙ ap world-by is-made
+
+  passes : passed (call format l d .answer) ≡ true
+  unfolding call call-by passed
+  passes = ap (λ b. passed (call-by b format l d .answer)) (lengths-enough l n m z) ∙ ap (λ o. passed (o .answer)) is-made
 
   pub formatted-tied : Tied n m (formatted l d) (new n m .areas) (new n m .desk)
-  unfolding world-by lent-after read-areas ts
+  unfolding world-by lent-after read-areas ts is-format of-32-bits
   formatted-tied =
       let s = made-read n m least in
       let t = stores-read n m (take (length (ts n m least)) (ts n m least)) l (fits-first n m (length (ts n m least)) (ts n m least) (fits n m least)) (z .stable-pages) (z .stable-log) in
       let e = same-first n m least l (z .stable-pages) (z .stable-log) in
       record {
-        inv = formatted-inv l d (lengths-enough l n m z);
+        inv = begun format l d refl refl passes;
         lengths = subst (λ (w : World). Lengths (w .lent) n m) (sym formatted-by) (record {
           work-pages = s .pages-length;
           stable-pages = t .pages-length;

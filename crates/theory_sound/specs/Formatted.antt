@@ -1,4 +1,4 @@
--- FORMAT LEAVES SOUND AREAS AND A SOUND DESK, whatever was there.
+-- FORMAT AND LOAD LEAVE SOUND AREAS AND A SOUND DESK, whatever was there.
 use Prim.Native.Nat.{ℕ, suc, _+_, _-_, _≤_}
 use mathlib.Core.Path.{_≡_, refl, sym, ap, _∙_, subst}
 use mathlib.Core.Bool.{true}
@@ -16,8 +16,11 @@ use Rattle.def_model.specs.Log.{slots-from, log-area}
 use Rattle.def_model.specs.Batches.{open-batches, told, desk-of, pending-count}
 use Rattle.def_model.specs.Update.{Run}
 use Rattle.def_model.specs.Sound.{sound, same-slots}
-use Rattle.def_model.specs.Calls.{run-side, formatted-pages, page-stores, format-stores, format-areas}
-use Rattle.def_model.specs.OnBytes.{format, outcome}
+use Rattle.def_model.specs.Loading.{columns, loaded-pages}
+use Rattle.def_model.specs.Answers.{passed}
+use Rattle.def_model.specs.Calls.{run-side, formatted-pages, page-stores, format-stores, format-areas, load-by, load-areas}
+use Rattle.def_model.specs.OnBytes.{format, load, outcome}
+use Rattle.def_recovery.specs.Events.{of-32-bits}
 use Rattle.theory_history.specs.Origin.{Origin, origin-pages}
 use Rattle.theory_history.specs.FormattedOrigin.{formatted-origin, formatted-is}
 use Rattle.theory_history.specs.Start.{slides-after, pages-after}
@@ -26,6 +29,7 @@ use Rattle.theory_history.specs.History.{history-now, core-same, run-after}
 use Rattle.theory_history.specs.Growing.{start-history}
 use Rattle.law_areas.specs.Typed.{log-back}
 use Rattle.def_model.specs.Redo.{replay}
+use Rattle.theory_load.specs.Checked.{load-passes, load-starts}
 use Rattle.theory_sound.specs.StoredPart.{Stores, stores-ok, slots-same}
 use Rattle.theory_sound.specs.ToSound.{sound-again}
 use Rattle.theory_sound.specs.SoundAfter.{Reserved, used-within, reserves-hold}
@@ -111,3 +115,18 @@ format-sound a d least few equal =
     let stable = store-all (format-stores (formatted-pages n) m) (a .stable) in
     (λ i. sound (record { work = record { pages = map page (sym (formatted-is n least) i); log = replicate m empty }; stable = stable }) (desk-of [] 0))
     ∙ origin-sound formatted-origin n m least few stable (formatted-log (formatted-pages n) m (a .stable) equal)
+
+-- A LOADED REGISTER IS SOUND.
+pub load-sound : (ks vs : List ℕ) (a : Areas) (d : Desk) → of-32-bits (load ks vs) ≡ true → length (a .work .pages) ≤ map-bits → length (a .stable .log) ≡ length (a .work .log) → passed (outcome (load ks vs) a d .answer) ≡ true
+    → sound (areas-after (load ks vs) a d) (outcome (load ks vs) a d .desk) ≡ true
+unfolding outcome load-areas load-by desk-of open-batches told eight-rows tab
+load-sound ks vs a d fits few equal p =
+    let n = length (a .work .pages) in
+    let m = length (a .work .log) in
+    let x = load-starts ks vs a d p fits few in
+    let pages = loaded-pages n (columns ks vs) in
+    let stable = store-all (format-stores pages m) (a .stable) in
+    let s : sound (record { work = record { pages = map page pages; log = replicate m empty }; stable = stable }) (desk-of [] 0) ≡ true =
+    (λ i. sound (record { work = record { pages = map page (x .pages-are i); log = replicate m empty }; stable = stable }) (desk-of [] 0))
+    ∙ origin-sound (x .origin) n m (x .enough) few stable (formatted-log pages m (a .stable) equal) in
+    subst (λ o. let y = load-by o ks vs a in sound (record { work = y .work; stable = store-all (y .stores) (a .stable) }) (y .desk) ≡ true) (sym (load-passes ks vs a d p)) s

@@ -23,7 +23,7 @@ use Rattle.def_model.specs.Lookup.{fetched}
 use Rattle.def_model.specs.Update.{emit, put-record, remove-record}
 use Rattle.def_model.specs.Sound.{sound, work-pages, work-log, work-slots, work-open, update-has-slots, update-has-pages, begin-has-slots}
 use Rattle.def_model.specs.Calls.{is-none, run-of, kept-run, stored-run, present, value-or, last-of, zero-key, begin-checks, begin-by, begin-batch, fetch-checks, fetch-by, fetch-slide, next-checks, next-slide-by, next-slide, insert-checks, insert-by, insert-slide, delete-checks, delete-by, delete-slide, commit-checks, commit-by, commit-batch, aborted, abort-checks, abort-by, abort-batch, write-out-checks, write-out-by, write-out-page, mark-checks, latest-by, mark-batch, return-checks, return-by, return-batch, returned}
-use Rattle.def_model.specs.OnBytes.{Call, format, begin, restart, fetch, next, insert, delete, commit, abort, write-out, outcome, take-mark, return-to}
+use Rattle.def_model.specs.OnBytes.{Call, format, begin, restart, fetch, next, insert, delete, commit, abort, write-out, outcome, take-mark, return-to, load}
 use Rattle.def_recovery.specs.Events.{is-format, is-restart, fits-32, of-32-bits}
 use Rattle.theory_ledger.specs.Small.{Small}
 use Rattle.theory_calls.specs.Checks.{none-broken, kept-check, some-of, live-batch, absent-of, present-of}
@@ -163,6 +163,7 @@ module _ (a : Areas) (d : Desk) (l : Lendable a) (s : sound a d ≡ true) where
 pub sound-kept : (c : Call) (a : Areas) (d : Desk) → is-format c ≡ false → is-restart c ≡ false → of-32-bits c ≡ true → Lendable a → passed (outcome c a d .answer) ≡ true → sound (areas-after c a d) (outcome c a d .desk) ≡ true
 unfolding is-format is-restart of-32-bits
 sound-kept format a d f r k l p = clash f
+sound-kept (load ks vs) a d f r k l p = clash f
 sound-kept restart a d f r k l p = clash r
 sound-kept begin a d f r k l p = begin-kept a d l (asks-sound begin a d f r p) p
 sound-kept (fetch b q) a d f r k l p = fetch-kept a d l (asks-sound (fetch b q) a d f r p) b q

@@ -28,7 +28,7 @@ use Rattle.law_areas.specs.Pages.{read-pages-length}
 use Rattle.law_areas.specs.Logs.{read-log-length}
 use Rattle.theory_sound.specs.SoundKept.{areas-after}
 use Rattle.theory_sound.specs.Kept.{Lendable, sound-kept}
-use Rattle.theory_sound.specs.Formatted.{format-sound}
+use Rattle.theory_sound.specs.Formatted.{format-sound, load-sound}
 use Rattle.theory_sound.specs.AcceptedPages.{LowRecords}
 use Rattle.theory_sound.specs.Restarted.{Readable, restart-sound}
 
@@ -140,6 +140,7 @@ module _ (l : Lent) (lens : lengths-ok l ≡ true) where
   pub calls-leave-sound : (c : Call) (d : Desk) → of-32-bits c ≡ true → passed (outcome c (read-areas l) d .answer) ≡ true → sound (areas-after c (read-areas l) d) (outcome c (read-areas l) d .desk) ≡ true
   unfolding is-format is-restart
   calls-leave-sound OnBytes.format d k p = let e = pages-of-work in let m = z .most-pages in let j = z .least-pages in format-sound (read-areas l) d (omega arith) (omega arith) logs-equal
+  calls-leave-sound (OnBytes.load ks vs) d k p = let e = pages-of-work in let m = z .most-pages in load-sound ks vs (read-areas l) d k (omega arith) logs-equal p
   calls-leave-sound OnBytes.restart d k p = restart-sound (read-areas l) d readable p
   calls-leave-sound OnBytes.begin d k p = sound-kept OnBytes.begin (read-areas l) d refl refl k lendable p
   calls-leave-sound (OnBytes.fetch a b) d k p = sound-kept (OnBytes.fetch a b) (read-areas l) d refl refl k lendable p

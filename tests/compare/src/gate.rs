@@ -7,7 +7,7 @@ use crate::machine;
 use crate::tally::Tally;
 use crate::traces::{compare_run, Seen};
 use reference::bench::Shape;
-use reference::calls::Call;
+use reference::calls::{Call, Columns};
 use std::io::Write;
 use std::ops::Range;
 
@@ -30,7 +30,7 @@ const RUNS: [Runs; 6] = [
 
 type Try = (&'static str, fn() -> damage::Tried);
 
-const TRIES: [Try; 30] = [
+const TRIES: [Try; 31] = [
     ("every bit of a stored image turned", damage::bits_of_the_image),
     ("bits of all areas turned, for the other calls", damage::bits_for_other_calls),
     ("every bit of the desk turned", damage::bits_of_the_desk),
@@ -60,6 +60,7 @@ const TRIES: [Try; 30] = [
     ("the largest redo", edges::largest_redo),
     ("inserts of key 0, and slide 0 from the field", edges::key_0),
     ("marks, and returns to them", edges::marks),
+    ("loads of every shape, and refused ones", edges::loads),
     ("two registers in two threads", edges::two_threads),
 ];
 
@@ -123,6 +124,7 @@ impl Gate<'_> {
         let (batch, key, value, mark, page) = (0, 0, 0, 0, 0);
         let calls = [
             Call::Format,
+            Call::Load { columns: Columns::NONE },
             Call::Begin,
             Call::Fetch { batch, key },
             Call::Next { batch, key },

@@ -20,7 +20,7 @@ use std::process::ExitCode;
 use traces::compare_run;
 
 const USAGE: &str =
-    "usage: compare gate | try WORDS | run plain|damaged|crowded|largest|edge|field SEED CALLS | long SEED CALLS";
+    "usage: compare gate | try WORDS | run plain|damaged|crowded|largest|edge|field SEED CALLS | long SEED CALLS | loads";
 
 fn main() -> ExitCode {
     let arguments: Vec<String> = std::env::args().skip(1).collect();
@@ -30,6 +30,7 @@ fn main() -> ExitCode {
         ["try", words] => Some(gate::gate(words)),
         ["run", shape, seed, calls] => one_run(shape, seed, calls),
         ["long", seed, calls] => long(seed, calls),
+        ["loads"] => Some(loads()),
         _ => None,
     };
     match same {
@@ -65,6 +66,16 @@ fn long(seed: &str, calls: &str) -> Option<bool> {
         }
     }
     unreachable!("the seeds do not end")
+}
+
+/// Loads of every size.
+fn loads() -> bool {
+    let tried = edges::all_loads();
+    match &tried {
+        Ok(tally) => println!("{} loads compared, no difference", tally.calls()),
+        Err(difference) => println!("DIFFERENCE: {difference}"),
+    }
+    tried.is_ok()
 }
 
 /// Compare one run and say so; answers how many calls were the same.

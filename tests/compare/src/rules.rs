@@ -10,6 +10,7 @@ use reference::layout::{Areas, Desk};
 pub fn reasons(made: Call) -> &'static [u32] {
     match made {
         Call::Format => &[1],
+        Call::Load { .. } => &[1, 7, 8, 9, 18],
         Call::Begin => &[1, 11, 13, 17],
         Call::Fetch { .. } | Call::Next { .. } => &[1, 11, 12, 14, 16],
         Call::Insert { .. } => &[1, 7, 11, 12, 14, 15, 17, 18],
@@ -34,7 +35,7 @@ pub fn check(made: Call, reason: u32, areas: &Areas, desk: &Desk, left: &Loan) -
         return Err(Difference::new("a refusal gives values"));
     }
     check_areas(made, reason, areas, left)?;
-    let wanted = if matches!(made, Call::Format | Call::Restart) { Desk::empty() } else { *desk };
+    let wanted = if made.starts_anew() { Desk::empty() } else { *desk };
     if *left.desk != wanted.bytes() {
         return Err(Difference::new("a refusal leaves another desk than is written"));
     }

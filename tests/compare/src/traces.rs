@@ -41,7 +41,8 @@ pub fn compare_run(shape: Shape, seed: u64, calls: usize) -> Result<Seen, Differ
     let mut call = 0;
     for command in &commands {
         call += usize::from(matches!(command, Command::Call(_)));
-        let place = || format!("run {} {seed} {calls}, call {call} ({command})", shape.name());
+        // Of a load's line the beginning says enough.
+        let place = || format!("run {} {seed} {calls}, call {call} ({:.100})", shape.name(), command.to_string());
         course.follow(command).map_err(|difference| difference.at(place()))?;
     }
     Ok(course.seen())
@@ -55,7 +56,7 @@ struct Course {
     beside: Beside,
     images: Images,
     random: Random,
-    /// None before the first finished formatting, after damage, and after a cut formatting.
+    /// None before the first finished formatting or loading, after damage, and after one that was cut.
     book: Option<Book>,
     /// Whether a finished call left the working areas and the desk, and nothing but calls and growth came since.
     left_sound: bool,
@@ -99,7 +100,7 @@ impl Course {
             self.cuts += 1;
             self.beside.loan.set(&self.model.areas, &self.model.desk);
         }
-        if made == Call::Format {
+        if made.is_formatting() {
             self.check_image()?;
         }
         Ok(())
@@ -113,9 +114,10 @@ impl Course {
         }
     }
 
-    /// The images that a call leaves when it is cut after each of its stores. A cut formatting lies outside demand 3.
+    /// The images that a call leaves when it is cut after each of its stores. A cut formatting or loading lies
+    /// outside demand 3.
     fn check_cuts(&mut self, made: Call, outcome: &Outcome) -> Result<(), Difference> {
-        let (Some(book), false) = (&self.book, made == Call::Format || outcome.stores.is_empty()) else {
+        let (Some(book), false) = (&self.book, made.is_formatting() || outcome.stores.is_empty()) else {
             return Ok(());
         };
         let mut image = self.model.areas.clone();
@@ -150,8 +152,8 @@ fn leaves_sound(event: &Event, before: bool) -> bool {
     match (event.call, event.answer) {
         _ if event.was_cut => false,
         (_, Ok(_)) => true,
-        // Both leave an empty desk.
-        (Call::Format | Call::Restart, Err(_)) => false,
+        // These leave an empty desk.
+        (made, Err(_)) if made.starts_anew() => false,
         (_, Err(_)) => before,
     }
 }

@@ -17,7 +17,7 @@ use std::collections::BTreeMap;
 type Met = BTreeMap<u8, usize>;
 
 /// "A refusal changes nothing, except that restart's 3 to 18 zero the working areas; a refused format or restart gives an
-/// empty desk." A call that passes leaves sound areas, and its stores are all that changed in the stable ones.
+/// empty desk", and a refused loading. A call that passes leaves sound areas, and its stores are all that changed in the stable ones.
 fn check_outcome(areas: &Areas, desk: &Desk, made: Call, outcome: &Outcome) {
     let mut expected = areas.clone();
     for store in &outcome.stores {
@@ -33,8 +33,7 @@ fn check_outcome(areas: &Areas, desk: &Desk, made: Call, outcome: &Outcome) {
         expected.fill_working(0);
     }
     assert!(outcome.areas == expected, "{made:?} refused by {refusal:?}");
-    let empties_desk = matches!(made, Call::Format | Call::Restart);
-    assert_eq!(outcome.desk, if empties_desk { Desk::empty() } else { *desk });
+    assert_eq!(outcome.desk, if made.starts_anew() { Desk::empty() } else { *desk });
 }
 
 fn try_call(areas: &Areas, desk: &Desk, made: Call, met: &mut Met) {
@@ -56,7 +55,7 @@ fn areas_of_any_lengths_and_bytes() {
         let made = any_call(&mut random);
         try_call(&areas, &desk, made, &mut met);
     }
-    check_met(&met, &[0, 1, 2, 3, 7, 11]);
+    check_met(&met, &[0, 1, 2, 3, 7, 8, 9, 11, 18]);
 }
 
 /// Some registers in the middle of their work.

@@ -84,13 +84,13 @@ fn check_every_cut(before: &Instrument, made: Call, book: &Option<Book>, seen: &
     }
 }
 
-/// "A refusal changes nothing", but for formats and restarts; a call that passes leaves sound areas.
+/// "A refusal changes nothing", but for those that start anew; a call that passes leaves sound areas.
 fn check_areas(before: &Instrument, event: &Event, after: &Instrument) {
     match (event.was_cut, event.answer) {
         (false, Ok(_)) => {
             assert!(sound(&after.areas, &after.desk).is_some(), "{:?} leaves sound areas", event.call);
         }
-        (false, Err(_)) if !matches!(event.call, Call::Format | Call::Restart) => {
+        (false, Err(_)) if !event.call.starts_anew() => {
             assert!(before == after, "{:?} was refused and changes nothing", event.call);
         }
         _ => {}

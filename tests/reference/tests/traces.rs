@@ -4,9 +4,10 @@ mod common;
 
 use common::each_event;
 use reference::bench::{damaged_trace, run, trace, Command, Event, Instrument, Shape};
-use reference::calls::{redo_alone, sound, Call};
-use reference::layout::{Kind, Page, Record, Store};
-use reference::sizes::SLOT_BYTES;
+use reference::calls::{redo_alone, sound, Call, Columns};
+use reference::layout::{Entry, Kind, Page, Record, Store};
+use reference::sizes::{ROOT, SLOT_BYTES};
+use reference::tree::pages_for;
 use std::collections::BTreeSet;
 
 #[test]
@@ -89,7 +90,7 @@ fn linked_before_a_join(records: &[&Record]) -> Option<&'static str> {
 
 /// What the traces are for. Restart's 5 and 6 need damage, and its 18 and the 19 of abort and return an image past the
 /// reserves.
-const WANTED: [&str; 76] = [
+const WANTED: [&str; 82] = [
     "link after the right neighbour",
     "link of the left neighbour",
     "Split at level 0",
@@ -107,6 +108,12 @@ const WANTED: [&str; 76] = [
     "Lower at level 0",
     "Lower at level 1",
     "Format refused 1",
+    "Load refused 1",
+    "Load refused 7",
+    "Load refused 8",
+    "Load refused 9",
+    "Load refused 18",
+    "Load cut",
     "Begin refused 11",
     "Begin refused 13",
     "Begin refused 17",
@@ -232,7 +239,7 @@ impl Freed {
                 self.taken += self.keys.iter().filter(by_other).count();
             }
             (Call::Commit { batch } | Call::Abort { batch }, Some(_)) => self.keys.retain(|(of, _)| *of != batch),
-            (Call::Format | Call::Restart, _) => self.keys.clear(),
+            (made, _) if made.starts_anew() => self.keys.clear(),
             _ => {}
         }
     }
@@ -265,6 +272,57 @@ fn the_traces_meet_what_returns_are_for() {
     let missed: Vec<&str> = wanted.into_iter().filter(|feature| !met.contains(*feature)).collect();
     assert!(missed.is_empty(), "never met: {missed:?}");
     assert!(taken > 5, "{taken} keys that a return has freed are taken by another batch");
+}
+
+/// What a finished or refused load was, in words.
+fn of_load(event: &Event, after: &Instrument) -> Vec<String> {
+    let Call::Load { columns: Columns { keys, values } } = event.call else {
+        return Vec::new();
+    };
+    if event.was_cut {
+        return Vec::new();
+    }
+    let Err(refusal) = event.answer else {
+        let pages = sound(&after.areas, &after.desk).expect("sound").work.pages;
+        let full = (pages.free_count() == 0).then(|| "no page left".to_string());
+        return [format!("{} levels", pages.list[ROOT].level + 1), format!("{} records", keys.len())]
+            .into_iter()
+            .chain(full)
+            .collect();
+    };
+    let rest = [
+        ("zero", keys.contains(&0)),
+        ("order", keys.windows(2).any(|pair| pair[0] >= pair[1])),
+        ("pages", pages_for(&vec![Entry::new(0, 0); keys.len()], after.areas.page_count()).is_none()),
+    ];
+    let besides: Vec<&str> = rest.iter().filter(|(_, broken)| *broken).map(|(name, _)| *name).collect();
+    let first = if keys.len() == values.len() { refusal.number().to_string() } else { format!("{refusal:?}") };
+    besides.iter().map(|reason| format!("{first} and {reason}")).collect()
+}
+
+#[test]
+fn the_traces_meet_what_loads_are_for() {
+    let mut met = BTreeSet::new();
+    for seed in 41..=140 {
+        each_event(&run(Shape::Plain, seed, 300), |_, event, after| met.extend(of_load(event, after)));
+    }
+    let sizes = [0, 1, 14, 15, 20, 21, 23, 24, 140, 141, 143, 144].map(|size| format!("{size} records"));
+    let wanted = [
+        "1 levels",
+        "2 levels",
+        "3 levels",
+        "4 levels",
+        "no page left",
+        "ColumnsDiffer and zero",
+        "ColumnsDiffer and order",
+        "ColumnsDiffer and pages",
+        "7 and order",
+        "7 and pages",
+        "9 and pages",
+    ];
+    let wanted = wanted.into_iter().map(String::from).chain(sizes);
+    let missed: Vec<String> = wanted.filter(|feature| !met.contains(feature)).collect();
+    assert!(missed.is_empty(), "never met: {missed:?}");
 }
 
 #[test]

@@ -68,6 +68,11 @@ fn marks_and_returns() {
 }
 
 #[test]
+fn loaded_registers() {
+    compare("u03-", 8, vectors);
+}
+
+#[test]
 fn images_from_the_field() {
     compare("field/", 5, vectors);
 }

@@ -15,8 +15,12 @@ pub enum Refusal {
     Redo = 5,
     /// Restart: the redone pages break the tree rules or the pending rule.
     Tree = 6,
-    /// The key of an insert is 0: the barcode was not read.
+    /// The key of an insert, or one of a loading, is 0: the barcode was not read.
     Unread = 7,
+    /// The columns of a loading differ in length.
+    ColumnsDiffer = 8,
+    /// The keys of a loading do not rise strictly.
+    NotRising = 9,
     /// The working areas or the desk are not sound.
     Unsound = 11,
     /// No such open batch.

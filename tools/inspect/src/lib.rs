@@ -3,6 +3,7 @@
 //!
 //! Every command gives lines of text; only `salvage` writes a file, a new one.
 
+mod columns;
 mod copies;
 mod diff;
 mod group;
@@ -10,12 +11,14 @@ mod image;
 mod log;
 mod salvage;
 mod slides;
+mod start;
 mod summary;
 mod svg;
 mod text;
 mod tree;
 mod why;
 
+pub use columns::read_columns;
 pub use diff::diff;
 pub use image::{Image, Lost, Shape};
 pub use log::{log, Which};

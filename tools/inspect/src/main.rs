@@ -1,6 +1,7 @@
 //! The program: reads a stored image and prints what it finds. It is not proved, and changes nothing that it reads.
 
-use inspect::{diff, log, salvage, slides, summary, svg, tree, why_image, Image, Which};
+use decode::layout::Entry;
+use inspect::{diff, log, read_columns, salvage, slides, summary, svg, tree, why_image, Image, Which};
 use std::io::{self, Write};
 use std::process::ExitCode;
 
@@ -11,8 +12,9 @@ usage: inspect summary IMAGE                 what the image holds, and what a re
        inspect tree IMAGE [svg]              the pages after redo, from the root down; as a picture
        inspect slides IMAGE                  the slides that a restart leaves
        inspect diff IMAGE IMAGE              the pages and slots that differ
-       inspect salvage IMAGE OUT             a new image with what can be brought back
+       inspect salvage IMAGE OUT [COLUMNS]   a new image with what can be brought back
 IMAGE is a file of the example host, or NAME for the raw areas NAME.pages and NAME.log. OUT is written in IMAGE's form.
+COLUMNS is the text that was imported, a slide a line: its key and its value.
 This program is not proved. It reads; only salvage writes, and only new files.";
 
 /// What to print, and whether all is well.
@@ -48,7 +50,8 @@ fn obey(words: &[&str]) -> Said {
         ["tree", image, "svg"] => Ok((svg(&areas(image)?)?, true)),
         ["slides", image] => Ok((slides(&areas(image)?)?, true)),
         ["diff", one, other] => said_diff(&Image::read(one)?, &Image::read(other)?),
-        ["salvage", image, out] => write_salvaged(&Image::read(image)?, out),
+        ["salvage", image, out] => write_salvaged(&Image::read(image)?, out, None),
+        ["salvage", image, out, columns] => write_salvaged(&Image::read(image)?, out, Some(&read_columns(columns)?)),
         _ => Err(USAGE.to_string()),
     }
 }
@@ -68,8 +71,10 @@ fn said_diff(one: &Image, other: &Image) -> Said {
     Ok((lines, same))
 }
 
-fn write_salvaged(image: &Image, out: &str) -> Said {
-    let salvaged = salvage(image)?;
-    salvaged.image.write(out).map_err(|error| format!("{out}: {error}"))?;
-    Ok((salvaged.lines, true))
+fn write_salvaged(image: &Image, out: &str, columns: Option<&[Entry]>) -> Said {
+    let salvaged = salvage(image, columns)?;
+    if let Some(saved) = salvaged.image {
+        saved.write(out).map_err(|error| format!("{out}: {error}"))?;
+    }
+    Ok((salvaged.lines, salvaged.is_well))
 }

@@ -1,43 +1,78 @@
-//! What can be brought back from a damaged image: newly formatted pages, and the log up to the damage. The log is never
-//! written over, so from formatted pages on it says everything; the stored pages only save redoing it.
+//! What can be brought back from a damaged image: the pages that the register started from, and the log up to the damage.
+//! The log is never written over, so from these pages on it says everything; the stored pages only save redoing it. Slides
+//! that were imported are in no record: where the stored pages show some, their columns are needed.
 
 use crate::image::Image;
+use crate::start::{Evidence, Start};
+use crate::text::plural;
 use crate::why::why_image;
-use decode::layout::{Areas, Kind, Pages, Record};
+use decode::layout::{Areas, Entry, Kind, Pages, Record};
 use decode::log::{is_empty_slot, obeys_pending_rule, read_slot, redo, Log, OpenBatches};
 use decode::rules::slides_of;
 use decode::sizes::SLOT_BYTES;
-use decode::Fault;
+use decode::{Fault, Refusal};
 
 pub struct Salvaged {
-    pub image: Image,
-    /// What was kept and what is lost, and what a restart of the new image answers.
+    /// None where it is in doubt what the register started from, and that was not given.
+    pub image: Option<Image>,
+    /// What was kept and what is lost, and what a restart of the new image answers; and what is in doubt.
     pub lines: Vec<String>,
+    /// Whether no stored page that can be read speaks against what is brought back.
+    pub is_well: bool,
 }
 
-pub fn salvage(image: &Image) -> Result<Salvaged, String> {
+/// From the columns that were imported, if they are given; no slides for a register that started empty.
+pub fn salvage(image: &Image, columns: Option<&[Entry]>) -> Result<Salvaged, String> {
     let areas = &image.areas;
     if !areas.lengths_are_right() {
         return Err("restart answers 1: the areas' lengths are wrong".to_string());
     }
-    let (records, fault) = sure_part(areas);
-    let mut saved = Image::raw(Pages::formatted(areas.page_count()).bytes(), Vec::new());
-    saved.shape = image.shape;
-    saved.areas = Areas {
-        stable_pages: saved.areas.stable_pages,
-        ..Areas::default().grown(areas.page_count(), areas.slot_count())
-    };
+    let start = Start::from(columns.unwrap_or_default(), areas.page_count())?;
+    let (records, fault) = sure_part(areas, &start.pages);
+    let evidence = Evidence::of(areas, &start, &records);
+    // Records that do not fit the start are damaged, or it is not theirs.
+    let misfit = fault.as_ref().filter(|fault| matches!(fault.refusal, Refusal::Redo | Refusal::Tree));
+    let is_in_doubt = !evidence.is_for_start() && (evidence.is_against_start() || misfit.is_some());
+    if is_in_doubt && columns.is_none() {
+        return Ok(Salvaged { image: None, lines: doubts(&start, &evidence, misfit), is_well: false });
+    }
     let log = Log { records, slots: areas.slot_count() };
-    saved.areas.stable_log = log.bytes();
-    let mut lines = vec![kept(log.records.len())];
+    let saved = Image { shape: image.shape, ..Image::raw(start.pages.bytes(), log.bytes()) };
+    let against = evidence.lines(&start);
+    let is_well = against.is_empty() && !is_in_doubt;
+    let mut lines = Vec::new();
+    lines.extend(columns.map(|columns| format!("started from: {}", plural(columns.len(), "slide", "slides"))));
+    lines.extend(kept_and_lost(image, &log.records, fault));
+    lines.extend(against);
+    lines.extend(is_in_doubt.then(|| in_doubt(&format!("the register did not start from {}", start.name()))));
+    lines.push(format!("of what is brought back: {}", why_image(&saved).1));
+    Ok(Salvaged { image: Some(saved), lines, is_well })
+}
+
+/// Why nothing is written.
+fn doubts(start: &Start, evidence: &Evidence, misfit: Option<&Fault>) -> Vec<String> {
+    let mut lines = evidence.lines(start);
+    lines.extend(misfit.map(|fault| format!("the log does not fit {}: {fault}", start.name())));
+    lines.push(in_doubt("slides were there before the log began"));
+    let asked = "nothing is written: give the columns that were imported, or an empty file if there were none";
+    lines.push(asked.to_string());
+    lines
+}
+
+fn in_doubt(what: &str) -> String {
+    format!("in doubt: {what}, or what is named here is damaged")
+}
+
+/// The log up to the damage, and what was said after it.
+fn kept_and_lost(image: &Image, records: &[Record], fault: Option<Fault>) -> Vec<String> {
+    let mut lines = vec![kept(records.len())];
     lines.push(match fault {
         Some(fault) => format!("damage in the log: {}", image.said(&fault)),
         None => "damage in the log: none; the pages are made anew".to_string(),
     });
-    lines.extend(missing(areas, log.records.len()));
-    lines.extend(lost_cases(areas, &log.records));
-    lines.push(format!("of what is brought back: {}", why_image(&saved).1));
-    Ok(Salvaged { image: saved, lines })
+    lines.extend(missing(&image.areas, records.len()));
+    lines.extend(lost_cases(&image.areas, records));
+    lines
 }
 
 fn kept(records: usize) -> String {
@@ -49,7 +84,7 @@ fn kept(records: usize) -> String {
 }
 
 /// The longest first part of the log that can be trusted, and what is wrong after it.
-fn sure_part(areas: &Areas) -> (Vec<Record>, Option<Fault>) {
+fn sure_part(areas: &Areas, start: &Pages) -> (Vec<Record>, Option<Fault>) {
     let (mut records, mut fault) = Log::first_part(&areas.stable_log, areas.page_count());
     let mut cut = |records: &mut Vec<Record>, found: Option<(usize, Fault)>| {
         if let Some((count, found)) = found {
@@ -59,12 +94,12 @@ fn sure_part(areas: &Areas) -> (Vec<Record>, Option<Fault>) {
     };
     let chain = chain_break(&records);
     cut(&mut records, chain);
-    let start = first_not_redone(&records, areas.page_count(), false);
-    cut(&mut records, start);
+    let redone = first_not_redone(&records, start, false);
+    cut(&mut records, redone);
     // The rules hold after every record of a log that the register wrote. So they are asked once, and the record after
     // which they break is looked for only where they do.
-    if judge_whole(&records, areas.page_count()).is_err() {
-        let rule = first_not_redone(&records, areas.page_count(), true);
+    if judge_whole(&records, start).is_err() {
+        let rule = first_not_redone(&records, start, true);
         cut(&mut records, rule);
     }
     (records, fault)
@@ -78,15 +113,15 @@ fn chain_break(records: &[Record]) -> Option<(usize, Fault)> {
     Some((count, fault))
 }
 
-fn judge_whole(records: &[Record], page_count: usize) -> Result<(), Fault> {
-    let mut pages = Pages::formatted(page_count);
+fn judge_whole(records: &[Record], start: &Pages) -> Result<(), Fault> {
+    let mut pages = start.clone();
     redo(&mut pages, records)?;
     obeys_pending_rule(&OpenBatches::after(records)?, &slides_of(&pages)?)
 }
 
-/// How many records can be redone on formatted pages, where not all can; and, if asked, with the rules after each.
-fn first_not_redone(records: &[Record], page_count: usize, with_rules: bool) -> Option<(usize, Fault)> {
-    let mut pages = Pages::formatted(page_count);
+/// How many records can be redone from the start, where not all can; and, if asked, with the rules after each.
+fn first_not_redone(records: &[Record], start: &Pages, with_rules: bool) -> Option<(usize, Fault)> {
+    let mut pages = start.clone();
     let mut open = OpenBatches::default();
     for (count, record) in records.iter().enumerate() {
         let _ = open.follow(record);

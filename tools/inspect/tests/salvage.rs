@@ -3,9 +3,15 @@
 
 use decode::layout::Areas;
 use decode::sizes::{PAGE_BYTES, SLOT_BYTES};
-use inspect::{salvage, slides, why, why_image, Image, Lost, Shape};
+use inspect::{salvage, slides, why, why_image, Image, Lost, Salvaged, Shape};
 use reference::bench::areas_after;
 use std::path::{Path, PathBuf};
+
+/// What salvage says of a register that started empty, and the new image.
+fn salvaged(image: &Image) -> (Image, Vec<String>) {
+    let Salvaged { image, lines, .. } = salvage(image, Some(&[])).expect("lengths");
+    (image.expect("an image"), lines)
+}
 
 fn image(name: &str) -> Image {
     Image::read(&format!("{}/images/{name}", env!("CARGO_MANIFEST_DIR"))).expect("an image")
@@ -27,14 +33,14 @@ fn flip(areas: &mut Areas, area: usize, byte: usize) {
 fn damaged_pages_lose_nothing() {
     let sound = image("busy");
     for name in ["page", "redo"] {
-        let saved = salvage(&image(name)).expect("lengths").image;
+        let saved = salvage(&image(name), None).expect("lengths").image.expect("no doubt");
         assert_eq!(why(&saved.areas).0, 0, "{name}");
         assert_eq!(slides(&saved.areas), slides(&sound.areas), "{name}");
     }
     for page in 0..sound.areas.page_count() {
         let mut damaged = image("busy");
         damaged.areas.stable_pages[page * PAGE_BYTES..][..PAGE_BYTES].fill(0x5A);
-        let saved = salvage(&damaged).expect("lengths").image;
+        let saved = salvage(&damaged, None).expect("lengths").image.expect("no doubt");
         assert_eq!(slides(&saved.areas), slides(&sound.areas), "page {page}");
     }
 }
@@ -46,10 +52,10 @@ fn a_damaged_log_is_kept_up_to_the_damage() {
     for byte in (0..records * SLOT_BYTES).step_by(61) {
         let mut damaged = image("busy");
         flip(&mut damaged.areas, 3, byte);
-        let salvaged = salvage(&damaged).expect("lengths");
-        assert_eq!(why(&salvaged.image.areas).0, 0, "byte {byte}");
+        let (saved, _) = salvaged(&damaged);
+        assert_eq!(why(&saved.areas).0, 0, "byte {byte}");
         let before = byte / SLOT_BYTES * SLOT_BYTES;
-        assert_eq!(salvaged.image.areas.stable_log[..before], damaged.areas.stable_log[..before], "byte {byte}");
+        assert_eq!(saved.areas.stable_log[..before], damaged.areas.stable_log[..before], "byte {byte}");
     }
 }
 
@@ -69,7 +75,7 @@ fn a_lost_case_is_listed_with_what_it_kept() {
         let mut image = image_of(TAKEN_BACK);
         // A spare bit.
         flip(&mut image.areas, 3, (damaged - 1) * SLOT_BYTES + 3);
-        let lines = salvage(&image).expect("lengths").lines;
+        let (_, lines) = salvaged(&image);
         let wanted = format!("lost: batch 4, committed by record 12: {updates}");
         assert!(lines.contains(&wanted), "record {damaged} damaged: {lines:?}");
     };
@@ -85,7 +91,7 @@ fn a_lost_case_is_listed_with_what_it_kept() {
 fn salvage_writes_over_nothing() {
     let out = folder("over").join("out");
     let out = out.to_str().expect("a name");
-    let saved = salvage(&image("record")).expect("lengths").image;
+    let saved = salvage(&image("record"), None).expect("lengths").image.expect("no doubt");
     saved.write(out).expect("new files");
     assert!(saved.write(out).is_err());
     let back = Image::read(out).expect("the new image");
@@ -133,11 +139,12 @@ fn two_damaged_copies_are_named_and_salvaged() {
     let host = read(&path);
     assert_eq!(host.lost, [Lost::Page(4), Lost::Slot(90)]);
     assert_eq!(why_image(&host).1, "the host ends with status 2: neither copy of page 4 (place 5) is whole");
-    let salvaged = salvage(&host).expect("lengths");
+    let salvaged = salvage(&host, None).expect("lengths");
+    let saved = salvaged.image.expect("no doubt");
     assert_eq!(salvaged.lines[0], "kept: records 1 to 89");
-    assert_eq!(salvaged.image.shape, Shape::Host);
+    assert_eq!(saved.shape, Shape::Host);
     let out = path.with_file_name("saved");
-    salvaged.image.write(out.to_str().expect("a name")).expect("a new file");
+    saved.write(out.to_str().expect("a name")).expect("a new file");
     assert_eq!(why_image(&read(&out)).0, 0);
 }
 

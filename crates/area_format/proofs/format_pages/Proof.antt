@@ -6,13 +6,13 @@ use Prim.Native.Nat.{_/_}
 use native.Mathlib.Omega.{arith}
 use lib.ListN.{length}
 use Rattle.codec_page.specs.Typed.{typed}
-use Rattle.area_format.specs.Formatted.{pages-formatted}
+use Rattle.area_format.specs.Started.{pages-formatted}
 
 returns : tie.Need-returns
 returns c =
     let a = c .before .before .before .before .before .before .before .before .before .before .before .before .before .before .before .args in
     let zeroed = c .before .before .before .before .before .before .before .before .before .before .before .before .zero in
-    let first = c .before .before .before .before .before .before .before .before .first-map in
+    let first = c .before .before .before .before .before .before .before .before .load-map in
     let root = c .before .before .before .first-root in
     pages-formatted (zeroed .last .0) (c .before .before .before .before .before .before .before .write-at .last .0) (c .before .before .write-at2 .last .0) (typed (first .result)) (typed (root .result)) (length (a .wp .now)) (length (a .wp .now) / 128) (zeroed .ensures) (first .ensures) (c .before .before .before .before .before .before .before .write-at .ensures) (root .ensures) (c .before .before .write-at2 .ensures) (omega (arith, c .before .before .before .before .before .before .before .before .before .before .before .before .before .before .before .pre)) (omega (arith, c .before .before .before .before .before .before .before .before .before .before .before .before .before .before .before .pre))
 

@@ -5,7 +5,7 @@ use Rattle.area_format.proofs.format_work.Tie as tie
 use Prim.Native.Nat.{_/_}
 use native.Mathlib.Omega.{arith}
 use lib.ListN.{length}
-use Rattle.area_format.specs.Formatted.{log-formatted}
+use Rattle.area_format.specs.Started.{log-formatted}
 
 returns : tie.Need-returns
 returns c =

@@ -6,14 +6,15 @@ use crate::beside::Beside;
 use crate::difference::{Difference, AREAS};
 use crate::library;
 use crate::loan::{Loan, UNWRITTEN, VALUES_BYTES};
-use reference::calls::Call;
+use reference::calls::{Call, Columns};
 use reference::sizes::{DESK_BYTES, FEWEST_PAGES, FEWEST_SLOTS, MOST_PAGES, MOST_SLOTS};
 use std::array::from_fn;
 
 /// Every call, with numbers for which the register does it.
 fn every_call(busy: &Busy) -> Vec<Call> {
     let mut calls = super::bits::sound_calls(busy).to_vec();
-    calls.extend([Call::Format, Call::Restart]);
+    let columns = Columns::of_records((1..=20).map(|key| (key, key)));
+    calls.extend([Call::Format, Call::Load { columns }, Call::Restart]);
     calls
 }
 
@@ -64,12 +65,12 @@ pub fn lengths_of_desk_and_values() -> Tried {
     Ok(beside.tally)
 }
 
-/// The call answers 1 and leaves every byte, but that values of 8 bytes are zeros, and so is a desk of 136 bytes after format and restart.
+/// The call answers 1 and leaves every byte, but that values of 8 bytes are zeros, and so is a desk of 136 bytes after format, load and restart.
 /// The model has no such lengths: its desk is a value, and so is its answer.
 fn changes_what_it_may(beside: &mut Beside, made: Call) -> Result<(), Difference> {
     let mut expected = contents(&beside.loan);
     let [.., desk, values] = &mut expected;
-    if desk.len() == DESK_BYTES && matches!(made, Call::Format | Call::Restart) {
+    if desk.len() == DESK_BYTES && made.starts_anew() {
         desk.fill(0);
     }
     if values.len() == VALUES_BYTES {

@@ -1,8 +1,9 @@
 //! The edges: the deepest trees, the most pending updates, exact room and one place short of it, the largest counts, first
-//! and last keys, key 0, marks and returns, pages of 4 and 14 entries, and two registers at once.
+//! and last keys, key 0, marks and returns, loads, pages of 4 and 14 entries, and two registers at once.
 
 mod calls;
 mod deep;
+mod loading;
 mod marks;
 mod pending;
 mod rooms;
@@ -12,6 +13,7 @@ mod unread;
 mod written;
 
 pub use deep::{built_trees, risen_tree};
+pub use loading::{all_loads, loads};
 pub use marks::marks;
 pub use pending::most_pending;
 pub use rooms::{exact_pages, exact_slots};

@@ -1,13 +1,13 @@
 //! Anything at all: calls with any numbers, areas of any lengths and bytes, any desk. For demand 1.
 
 use super::Random;
-use crate::calls::Call;
+use crate::calls::{Call, Columns};
 use crate::layout::{Areas, Desk};
 use crate::sizes::{DESK_NUMBERS, FEWEST_PAGES, FEWEST_SLOTS, MOST_PAGES, MOST_SLOTS, PAGE_BYTES, SLOT_BYTES};
 
 pub fn any_call(random: &mut Random) -> Call {
     let (batch, key, value) = (random.below(40) as u32, [0, random.number()][random.below(2)], random.number());
-    match random.below(12) {
+    match random.below(13) {
         0 => Call::Format,
         1 => Call::Begin,
         2 => Call::Fetch { batch, key },
@@ -19,8 +19,19 @@ pub fn any_call(random: &mut Random) -> Call {
         8 => Call::Mark { batch },
         9 => Call::Return { batch, mark: random.below(40) as u32 },
         10 => Call::WriteOut { page: random.below(60) as u32 },
+        11 => Call::Load { columns: any_columns(random) },
         _ => Call::Restart,
     }
+}
+
+/// Mostly of equal lengths, and mostly rising from above 0.
+fn any_columns(random: &mut Random) -> Columns {
+    let size = [0, 1, 14, 15, random.below(600)][random.below(5)];
+    let apart = [1, 1, 2, 0][random.below(4)];
+    let first = random.once_in(4);
+    let key = |place: usize| u32::from(!first) + apart * place as u32;
+    let values = if random.once_in(8) { size + 1 } else { size };
+    Columns::new((0..size).map(key).collect(), (0..values).map(|_| random.number()).collect())
 }
 
 /// Mostly of right and equal lengths.

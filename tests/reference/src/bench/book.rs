@@ -26,12 +26,16 @@ impl Book {
         Book { slides, sheets: BTreeMap::new() }
     }
 
-    /// The book after an event that left this desk, where there is one: none stands between a cut formatting and the next
-    /// finished one.
+    /// The book after an event that left this desk, where there is one: none stands between a cut formatting or loading and
+    /// the next finished one.
     pub fn after(book: Option<Book>, event: &Event, desk: &Desk) -> Option<Book> {
         match (event.call, event.answer.is_ok(), event.was_cut) {
-            (Call::Format, true, true) => None,
+            (Call::Format | Call::Load { .. }, true, true) => None,
             (Call::Format, true, false) => Some(Book::default()),
+            // "The book starts with the columns."
+            (Call::Load { columns }, true, false) => {
+                Some(Book::of(columns.records().map(|slide| (slide.key, slide.value)).collect()))
+            }
             _ => book.map(|mut book| {
                 book.take(event, desk);
                 book

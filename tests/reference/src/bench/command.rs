@@ -1,7 +1,7 @@
-//! The commands of the vectors: lend, cut, damage, and the twelve calls.
+//! The commands of the vectors: lend, cut, damage, and the thirteen calls.
 
 use super::line::read_line;
-use crate::calls::Call;
+use crate::calls::{Call, Columns};
 use crate::sizes::DESK_NUMBERS;
 use std::fmt;
 
@@ -27,6 +27,8 @@ pub enum Command {
 
 impl Command {
     pub fn read(line: &[u8]) -> Option<Command> {
+        // A line that loads no records may keep the space before the first.
+        let line = if line == b"O 0 " { b"O 0" } else { line };
         let (letter, numbers) = read_line(line)?;
         match (letter, numbers.as_slice()) {
             (b'L', [p, q, s, t]) => Some(Command::Lend([*p as usize, *q as usize, *s as usize, *t as usize])),
@@ -65,6 +67,10 @@ pub fn read_call(letter: u8, numbers: &[u64]) -> Option<Call> {
 fn read_other_call(letter: u8, numbers: &[u64]) -> Option<Call> {
     match (letter, of_32_bits(numbers)?.as_slice()) {
         (b'Z', []) => Some(Call::Format),
+        (b'O', [count, numbers @ ..]) => {
+            let (keys, values) = numbers.split_at_checked(*count as usize)?;
+            Some(Call::Load { columns: Columns::new(keys.to_vec(), values.to_vec()) })
+        }
         (b'R', []) => Some(Call::Restart),
         (b'M', &[batch]) => Some(Call::Mark { batch }),
         (b'T', &[batch, mark]) => Some(Call::Return { batch, mark }),
@@ -75,6 +81,7 @@ fn read_other_call(letter: u8, numbers: &[u64]) -> Option<Call> {
 pub fn letter_of(call: &Call) -> char {
     match call {
         Call::Format => 'Z',
+        Call::Load { .. } => 'O',
         Call::Begin => 'B',
         Call::Fetch { .. } => 'F',
         Call::Next { .. } => 'N',
@@ -100,6 +107,10 @@ impl fmt::Display for Command {
                 write!(to, "{}", letter_of(call))?;
                 match call {
                     Call::Format | Call::Begin | Call::Restart => Ok(()),
+                    Call::Load { columns: Columns { keys, values } } => {
+                        write!(to, " {}", keys.len())?;
+                        keys.iter().chain(*values).try_for_each(|number| write!(to, " {number}"))
+                    }
                     Call::Insert { batch, key, value } => write!(to, " {batch} {key} {value}"),
                     Call::Fetch { batch, key } | Call::Next { batch, key } | Call::Delete { batch, key } => {
                         write!(to, " {batch} {key}")

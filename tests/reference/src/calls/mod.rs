@@ -1,9 +1,9 @@
-//! The twelve calls, each a function from areas and desk to an outcome. Checks go in the order of the refusals' numbers.
+//! The thirteen calls, each a function from areas and desk to an outcome. Checks go in the order of the refusals' numbers.
 
 mod batch;
 mod begin;
 mod end;
-mod format;
+mod load;
 mod marks;
 mod outcome;
 mod read;
@@ -14,6 +14,7 @@ mod update;
 mod write_out;
 
 pub use end::take_back;
+pub use load::Columns;
 pub use outcome::{Answer, Outcome};
 pub use restart::{redo_alone, try_restart, Restarted};
 pub use sound::{pages_suffice, slots_suffice, sound, Sound};
@@ -28,6 +29,7 @@ use crate::layout::{Areas, Desk};
 #[derive(Clone, Copy, Debug, PartialEq, Eq)]
 pub enum Call {
     Format,
+    Load { columns: Columns },
     Begin,
     Fetch { batch: u32, key: u32 },
     Next { batch: u32, key: u32 },
@@ -41,10 +43,23 @@ pub enum Call {
     Restart,
 }
 
+impl Call {
+    /// "A loading counts as a formatting": both build a register anew, and only another one helps after one that was cut.
+    pub fn is_formatting(self) -> bool {
+        matches!(self, Call::Format | Call::Load { .. })
+    }
+
+    /// Whether the call makes areas and desk anew, whatever they are. A refused one gives an empty desk.
+    pub fn starts_anew(self) -> bool {
+        self.is_formatting() || self == Call::Restart
+    }
+}
+
 /// One call on what the last one left. Refusals included, the outcome is all there is to say about it.
 pub fn call(areas: &Areas, desk: &Desk, call: Call) -> Outcome {
     match call {
-        Call::Format => format::format(areas),
+        Call::Format => load::load(areas, Columns::NONE),
+        Call::Load { columns } => load::load(areas, columns),
         Call::Begin => begin::begin(areas, desk),
         Call::Fetch { batch, key } => read::fetch(areas, desk, batch, key),
         Call::Next { batch, key } => read::next(areas, desk, batch, key),

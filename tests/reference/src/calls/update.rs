@@ -9,8 +9,8 @@ use crate::sizes::{UPDATE_PAGES, UPDATE_RECORDS};
 use crate::tree::{go_down, Purpose};
 use crate::Refusal;
 
-/// "When the barcode reader fails it hands over slide number 0." Only an insert asks for it (02, U1).
-const UNREAD: u32 = 0;
+/// "When the barcode reader fails it hands over slide number 0." Only an insert and a loading ask for it (02, U1 and U3).
+pub const UNREAD: u32 = 0;
 
 pub fn insert(areas: &Areas, desk: &Desk, batch: u32, key: u32, value: u32) -> Outcome {
     outcome(areas, desk, try_insert(areas, desk, batch, Entry::new(key, value)))

@@ -45,7 +45,7 @@ impl Pages {
     }
 
     /// Whether a page keeps the layout, and its bytes are those of its fields. Else the byte, and the rule.
-    fn judge_page(&self, place: usize, bytes: &[u8]) -> Result<(), (usize, String)> {
+    pub fn judge_page(&self, place: usize, bytes: &[u8]) -> Result<(), (usize, String)> {
         self.list[place].judge_layout(place)?;
         if place == MAP {
             self.judge_map()?;

@@ -22,11 +22,11 @@ pub struct Maker {
     pub temper: Temper,
 }
 
-/// A call that only looks changes nothing, and neither does a refusal but for formats and restarts.
+/// A call that only looks changes nothing, and neither does a refusal but for those that start anew.
 fn may_have_changed(event: &Event) -> bool {
     match event.call {
         _ if event.was_cut => true,
-        Call::Format | Call::Restart => true,
+        made if made.starts_anew() => true,
         Call::Fetch { .. } | Call::Next { .. } | Call::Mark { .. } => false,
         _ => event.answer.is_ok(),
     }

@@ -2,7 +2,7 @@
 //!
 //! The maker runs the model beside what it writes, so that its batches, keys and pages are mostly ones that exist. Trees
 //! grow and shrink again, several batches are open at once and take back what they did after a mark, calls are refused on
-//! purpose, power fails at every kind of store and in restarts, and the areas grow.
+//! purpose, power fails at every kind of store and in restarts, the areas grow, and registers are formatted and loaded anew.
 
 mod aged;
 mod beside;
@@ -11,6 +11,7 @@ mod damage;
 mod everyday;
 mod field;
 mod keys;
+mod loading;
 mod maker;
 mod temper;
 mod trays;
@@ -48,7 +49,7 @@ pub fn run(shape: Shape, seed: u64, calls: usize) -> Run {
     Run { start, book, commands: maker.commands }
 }
 
-/// What a run starts from: nothing, and then it is lent and formatted, or a register that is there already.
+/// What a run starts from: nothing, and then it is lent and formatted or loaded, or a register that is there already.
 fn started(maker: &mut Maker, shape: Shape) -> (Instrument, Option<Book>) {
     let (register, slides) = match shape {
         Shape::Largest => {
@@ -62,7 +63,7 @@ fn started(maker: &mut Maker, shape: Shape) -> (Instrument, Option<Book>) {
             from_the_field(&mut maker.random, pages, slots)
         }
         _ => {
-            trouble::first_format(maker);
+            trouble::first_start(maker);
             return (Instrument::default(), None);
         }
     };

@@ -1,8 +1,10 @@
-//! What goes wrong: cuts, restarts that are cut again, refusals on purpose, areas that grow or do not fit.
+//! What goes wrong: cuts, restarts that are cut again, refusals on purpose, areas that grow or do not fit, registers that are
+//! made anew.
 
 use super::beside::split_beside_a_thin_leaf;
 use super::crossing::{begin, cross_batches};
 use super::everyday::{end_call, read_call, update_call, write_out_call};
+use super::loading::{cut_formatting, load_some, refused_load, some_formatting};
 use super::maker::{stores_of, Maker};
 use super::trays::{some_trays, tray_call, wrong_mark_call};
 use crate::calls::Call;
@@ -10,8 +12,8 @@ use crate::layout::Kind;
 use crate::log::is_empty_slot;
 use crate::sizes::{FEWEST_PAGES, FEWEST_SLOTS, PAGE_BYTES, SLOT_BYTES, TOP};
 
-/// Lend the areas, sometimes call before they are formatted, and format.
-pub fn first_format(maker: &mut Maker) {
+/// Lend the areas, sometimes call before they are formatted, and format or load.
+pub fn first_start(maker: &mut Maker) {
     let (fewest_pages, fewest_slots) = match (maker.temper.exact, maker.temper.deep) {
         (true, _) => (maker.temper.most_pages, maker.temper.most_slots),
         (_, true) => (maker.temper.most_pages / 2, maker.temper.most_slots - 200),
@@ -21,14 +23,16 @@ pub fn first_format(maker: &mut Maker) {
     let slots = maker.random.within(fewest_slots, maker.temper.most_slots);
     if maker.random.once_in(4) {
         maker.lend_even(FEWEST_PAGES - 1, FEWEST_SLOTS - 1);
-        maker.make(Call::Format);
+        let refused = some_formatting(maker);
+        maker.make(refused);
     }
     maker.lend_even(pages, slots);
     if maker.random.once_in(2) {
         maker.make(Call::Restart);
         maker.make(Call::Begin);
     }
-    maker.make(Call::Format);
+    let start = some_formatting(maker);
+    maker.make(start);
 }
 
 pub fn some_trouble(maker: &mut Maker) {
@@ -130,9 +134,10 @@ fn give_more_or_format(maker: &mut Maker) {
     if can_grow && maker.random.once_in(2) {
         grow(maker);
     } else if maker.random.once_in(6) {
-        cut_format(maker);
+        cut_formatting(maker);
     } else {
-        maker.make(Call::Format);
+        let start = some_formatting(maker);
+        maker.make(start);
     }
 }
 
@@ -164,29 +169,20 @@ fn uneven_areas(maker: &mut Maker) {
 }
 
 fn rarely(maker: &mut Maker) {
-    match maker.random.below(6) {
-        0 => cut_format(maker),
+    match maker.random.below(8) {
+        0 => cut_formatting(maker),
         1 => drop(maker.make(Call::Format)),
-        2 | 3 => (0..9).for_each(|_| drop(maker.make(Call::Begin))),
+        2 | 3 => load_some(maker),
+        4 | 5 => (0..9).for_each(|_| drop(maker.make(Call::Begin))),
         _ => drop(maker.make_cut(Call::Begin)),
     }
-}
-
-/// Only another formatting helps after one that was cut.
-fn cut_format(maker: &mut Maker) {
-    maker.make_cut(Call::Format);
-    for _ in 0..maker.random.below(3) {
-        let call = [Call::Restart, Call::Begin, Call::WriteOut { page: 0 }][maker.random.below(3)];
-        maker.make(call);
-    }
-    maker.make(Call::Format);
 }
 
 /// A call with numbers from anywhere.
 fn senseless_call(maker: &mut Maker) -> Call {
     let (batch, key, value) = (wrong_batch(maker), maker.random.number(), maker.random.number());
     let key = [0, key][maker.random.below(2)];
-    match maker.random.below(12) {
+    match maker.random.below(13) {
         0 => Call::Begin,
         1 => Call::Fetch { batch, key },
         2 => Call::Next { batch, key },
@@ -198,7 +194,8 @@ fn senseless_call(maker: &mut Maker) -> Call {
         8 => Call::Mark { batch },
         9 => Call::Return { batch, mark: key },
         // Away from sound areas this is refused where the lengths are wrong, and else it is one more formatting.
-        10 if !maker.instrument.areas.lengths_are_right() => Call::Format,
+        10 if !maker.instrument.areas.lengths_are_right() => some_formatting(maker),
+        11 => refused_load(maker),
         _ => Call::WriteOut { page: maker.random.number() },
     }
 }
@@ -209,11 +206,12 @@ fn wrong_batch(maker: &mut Maker) -> u32 {
 }
 
 fn refused_on_purpose(maker: &mut Maker) {
-    let call = match maker.random.below(7) {
+    let call = match maker.random.below(8) {
         0 | 1 => wrong_batch_call(maker),
         2 | 3 => held_key_call(maker),
         4 => key_of_the_wrong_kind(maker),
         5 => wrong_mark_call(maker),
+        6 => Some(refused_load(maker)),
         _ => Some(Call::WriteOut { page: (maker.page_count() + maker.random.below(4)) as u32 }),
     };
     if let Some(call) = call {

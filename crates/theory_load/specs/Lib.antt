@@ -1,0 +1,11 @@
+pub mod Groups
+pub mod Places
+pub mod Nodes
+pub mod Shape
+pub mod Numbering
+pub mod Rungs
+pub mod Loaded
+pub mod Fitting
+pub mod LoadedOrigin
+pub mod Columns
+pub mod Checked

@@ -1,0 +1,1 @@
+// A log and all that it leads to: see specs/.
