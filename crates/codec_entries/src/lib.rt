@@ -99,19 +99,19 @@ pub fn blank_from(es: [Entry; ROOM], n: usize) -> bool
     true
 }
 
-// SEARCH IN A PAGE, for the whole program: the place of the first of n entries whose key is not below k, or n.
-pub fn find(es: [Entry; ROOM], n: usize, k: u32) -> usize
+// SEARCH IN A PAGE, for the whole program, in 8 bits: the place of the first of n entries whose key is not below k, or n.
+pub fn find(es: [Entry; ROOM], n: u8, k: u32) -> u8
     requires { ⌜ n ≤ room ⌝ }
     ensures { λ r. ⌜ (r ≡ place k (used n es)) × (r ≤ n) ⌝ }
 {
-    let mut i = 0;
-    while i < n {
-        if es[i].key >= k {
-            return i;
+    let mut place = 0;
+    while place < n {
+        if es[place as usize].key >= k {
+            return place;
         }
-        i += 1;
+        place += 1;
     }
-    i
+    place
 }
 
 // The first i entries of es, and behind them those of fs from place k on, as many as there is room for.

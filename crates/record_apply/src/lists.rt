@@ -36,7 +36,7 @@ pub fn insert_key(es: [Entry; ROOM], n: usize, k: u32, v: u32) -> EntryList
     requires { ⌜ n ≤ room ⌝ }
     ensures { λ r. ⌜ (listed r ≡ take 14 (insert-sorted k v (used n es))) × (r .count ≤ room) ⌝ }
 {
-    let i = find(es, n, k);
+    let i = find(es, n as u8, k) as usize;
     let fs = insert_at(es, n, i, Entry { key: k, val: v });
     EntryList {
         count: at_most_room(n + 1),
@@ -49,7 +49,7 @@ pub fn remove_key(es: [Entry; ROOM], n: usize, k: u32) -> EntryList
     requires { ⌜ n ≤ room ⌝ }
     ensures { λ r. ⌜ (listed r ≡ take 14 (remove-key k (used n es))) × (r .count ≤ room) ⌝ }
 {
-    let i = find(es, n, k);
+    let i = find(es, n as u8, k) as usize;
     if i >= n {
         return EntryList {
             count: n,
@@ -73,7 +73,7 @@ pub fn link_in(es: [Entry; ROOM], n: usize, b: u32, u: u32, c: u32, w: u32) -> E
     requires { ⌜ n ≤ room ⌝ }
     ensures { λ r. ⌜ (listed r ≡ take 14 (link-in b u c w (used n es))) × (r .count ≤ room) ⌝ }
 {
-    let i = find(es, n, w);
+    let i = find(es, n as u8, w) as usize;
     if i >= n {
         return EntryList {
             count: n,
@@ -94,7 +94,7 @@ pub fn unlink_in(es: [Entry; ROOM], n: usize, b: u32, u: u32, w: u32) -> EntryLi
     requires { ⌜ n ≤ room ⌝ }
     ensures { λ r. ⌜ (listed r ≡ take 14 (unlink-in b u w (used n es))) × (r .count ≤ room) ⌝ }
 {
-    let i = find(es, n, u);
+    let i = find(es, n as u8, u) as usize;
     if i + 1 >= n {
         return EntryList {
             count: n,

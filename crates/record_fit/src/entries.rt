@@ -38,7 +38,7 @@ pub fn has_key(es: [Entry; ROOM], n: usize, k: u32) -> bool
     requires { ⌜ n ≤ room ⌝ }
     ensures { λ t. ⌜ t ≡ found (look k (used n es)) ⌝ }
 {
-    let i = find(es, n, k);
+    let i = find(es, n as u8, k) as usize;
     if i >= n {
         return false;
     }
@@ -52,7 +52,7 @@ pub fn has_entry(es: [Entry; ROOM], n: usize, k: u32, v: u32) -> bool
     requires { ⌜ n ≤ room ⌝ }
     ensures { λ t. ⌜ t ≡ found-value v (look k (used n es)) ⌝ }
 {
-    let i = find(es, n, k);
+    let i = find(es, n as u8, k) as usize;
     if i >= n {
         return false;
     }
@@ -142,7 +142,7 @@ pub fn link_fits(es: [Entry; ROOM], n: usize, b: u32, u: u32, w: u32) -> bool
     requires { ⌜ n ≤ room ⌝ }
     ensures { λ t. ⌜ t ≡ link-fits b u w 0 (used n es) ⌝ }
 {
-    let i = find(es, n, w);
+    let i = find(es, n as u8, w) as usize;
     if i >= n {
         return false;
     }
@@ -156,7 +156,7 @@ pub fn side_by_side(es: [Entry; ROOM], n: usize, b: u32, u: u32, c: u32, w: u32)
     requires { ⌜ n ≤ room ⌝ }
     ensures { λ t. ⌜ t ≡ side-by-side b u c w (used n es) ⌝ }
 {
-    let i = find(es, n, u);
+    let i = find(es, n as u8, u) as usize;
     if i + 1 >= n {
         return false;
     }

@@ -1,3 +1,4 @@
 pub mod Keys
 pub mod Sorted
+pub mod Search
 pub mod Covers

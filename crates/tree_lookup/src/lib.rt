@@ -4,7 +4,6 @@ use codec_page::Page;
 use codec_page::nth_page;
 use def_layout::Entry;
 use def_layout::MOST_ENTRIES;
-use def_layout::ROOM;
 ghost use mathlib.Core.Path.{_≡_};
 ghost use Prim.Native.Nat.{_≤_};
 ghost use Rattle.def_layout.specs.Sizes.{room};
@@ -37,16 +36,16 @@ pub struct Node {
 
 // How many entries the search goes over: of the map none, and of a count above fourteen the fourteen that there are. The others that such a
 // count shows are zero, and no key stops at them.
-fn searched(x: Page) -> usize
+fn searched(x: Page) -> u8
     ensures { λ r. ⌜ (r ≡ searched x) × (r ≤ room) ⌝ }
 {
     if x.kind >= 3 {
         return 0;
     }
     if x.count >= MOST_ENTRIES {
-        return ROOM;
+        return 14;
     }
-    x.count as usize
+    x.count as u8
 }
 
 // The first entry of a page whose key is not below k.
@@ -57,7 +56,7 @@ fn seek_in(x: Page, k: u32) -> Slide
     let es = x.entries;
     let i = find(es, n, k);
     if i < n {
-        return Slide::Is(es[i].key, es[i].val);
+        return Slide::Is(es[i as usize].key, es[i as usize].val);
     }
     Slide::Absent
 }

@@ -83,14 +83,14 @@ fn shared_key(x: Page, y: Page) -> u32
 }
 
 // The entry before the i-th of n; of the first it is none.
-fn before(es: [Entry; ROOM], n: usize, i: usize) -> Entry
+fn before(es: [Entry; ROOM], n: u8, i: u8) -> Entry
     requires { ⌜ (n ≤ room) × (i ≤ n) ⌝ }
     ensures { λ e. ⌜ e ≡ entry-at (no-entry ∷ used n es) i ⌝ }
 {
     if i == 0 {
         return Entry { key: 0, val: 0 };
     }
-    es[i - 1]
+    es[i as usize - 1]
 }
 
 // 01: "Join means merge if together they hold at most 14; otherwise redistribute, then link again."
@@ -188,10 +188,10 @@ fn restock(wp: &mut [u8], wl: &mut [u8], n: usize, m: usize, t: Run, k: u32, q: 
 {
     let x = page_at(wp, n, p);
     let es = x.entries;
-    let count = x.count as usize;
+    let count = x.count as u8;
     let i = find(es, count, k);
     if i + 1 < count {
-        let f = es[i + 1];
+        let f = es[i as usize + 1];
         let u = link_after(wp, wl, n, m, t, p, f.val, f.key);
         return unlink_join(wp, wl, n, m, u, p, q, f.val);
     }

@@ -73,6 +73,11 @@ fn loaded_registers() {
 }
 
 #[test]
+fn places_in_a_page() {
+    compare("u04-", 6, vectors);
+}
+
+#[test]
 fn images_from_the_field() {
     compare("field/", 5, vectors);
 }

@@ -23,19 +23,19 @@ returns : tie.Need-returns Inv-loop μ-loop
 returns c =
     let a = c .before .before .before .args in
     let l = c .before .before .loop in
-    (sym (find-here (a .t1) (a .n) (a .k) (l .i) _ (omega arith) (c .if1 .taken) (l .inv .1)), omega arith)
+    (sym (find-here (a .t1) (a .n) (a .k) (l .place) _ (omega arith) (c .if1 .taken) (l .inv .1)), omega arith)
 
 loop-again : tie.Need-loop-again Inv-loop μ-loop
 loop-again c =
     let a = c .before .before .before .args in
     let l = c .before .before .loop in
-    (search needs, find-more (a .t1) (a .n) (a .k) (l .i) _ (omega arith) (c .if1 .left) (l .inv .1))
+    (search needs, find-more (a .t1) (a .n) (a .k) (l .place) _ (omega arith) (c .if1 .left) (l .inv .1))
 
 returns-2 : tie.Need-returns-2 Inv-loop μ-loop
 returns-2 c =
     let a = c .before .before .args in
     let l = c .before .loop in
-    (sym (find-none (a .t1) (a .n) (a .k) (l .i) _ (omega arith) (l .inv .1)), omega arith)
+    (sym (find-none (a .t1) (a .n) (a .k) (l .place) _ (omega arith) (l .inv .1)), omega arith)
 
 pub find-spec : {M : Type 1} → statement M
 find-spec =
@@ -44,6 +44,7 @@ find-spec =
     Inv-loop
     μ-loop
     loop-holds
+    (λ c. search needs)
     (λ c. search needs)
     (λ c. search needs)
     returns

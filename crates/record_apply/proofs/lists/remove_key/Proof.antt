@@ -24,7 +24,9 @@ pub remove-key-spec : {M : Type 1} → statement M
 remove-key-spec =
     tie.close
     (tie.spec
+    (λ c. search needs)
     (λ c κs. search needs)
+    (λ c. search needs)
     returns
     (λ c. search needs)
     (λ c. search needs)

@@ -22,7 +22,9 @@ pub unlink-in-spec : {M : Type 1} → statement M
 unlink-in-spec =
     tie.close
     (tie.spec
+    (λ c. search needs)
     (λ c κs. search needs)
+    (λ c. search needs)
     (λ c. search needs)
     returns
     (λ c. search needs)

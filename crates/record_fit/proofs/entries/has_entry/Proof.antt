@@ -17,7 +17,9 @@ pub has-entry-spec : {M : Type 1} → statement M
 has-entry-spec =
     tie.close
     (tie.spec
+    (λ c. search needs)
     (λ c κs. search needs)
+    (λ c. search needs)
     returns
     (λ c. search needs)
     (λ c. search needs)

@@ -15,4 +15,4 @@ returns-3 c = let a = c .before .before .before .args in found-here (a .n) (a .t
 
 pub has-key-spec : {M : Type 1} → statement M
 has-key-spec =
-    tie.close (tie.spec (λ c κs. search needs) returns (λ c. search needs) (λ c. search needs) returns-2 returns-3)
+    tie.close (tie.spec (λ c. search needs) (λ c κs. search needs) (λ c. search needs) returns (λ c. search needs) (λ c. search needs) returns-2 returns-3)

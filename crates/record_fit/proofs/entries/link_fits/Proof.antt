@@ -18,7 +18,9 @@ pub link-fits-spec : {M : Type 1} → statement M
 link-fits-spec =
     tie.close
     (tie.spec
+    (λ c. search needs)
     (λ c κs. search needs)
+    (λ c. search needs)
     returns
     (λ c. search needs)
     (λ c. search needs)

@@ -18,7 +18,9 @@ pub side-by-side-spec : {M : Type 1} → statement M
 side-by-side-spec =
     tie.close
     (tie.spec
+    (λ c. search needs)
     (λ c κs. search needs)
+    (λ c. search needs)
     (λ c. search needs)
     returns
     (λ c. search needs)
