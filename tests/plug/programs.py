@@ -43,8 +43,9 @@ class Run:
         self.lines = output.split('\n')[:-1]  # a line without its end was not printed whole
         self.died = status == -9
         self.gave_up = status == GAVE_UP
-        self.repairs = [line for line in error.splitlines() if REPAIRED.fullmatch(line)]  # no fault of the host's
-        says = '\n'.join(line for line in error.splitlines() if line not in self.repairs)
+        said = error.split('\n')[:-1] if self.died else error.splitlines()
+        self.repairs = [line for line in said if REPAIRED.fullmatch(line)]  # no fault of the host's
+        says = '\n'.join(line for line in said if line not in self.repairs)
         self.error = says.strip() or (f'the program ended with status {status}' if status not in (0, 1, -9) else '')
 
     def answers(self, commands):
