@@ -1,7 +1,7 @@
 /* One call and one pass of each kind, for counting instructions.
  *
  *   counted stage IMAGE LETTER SCENE   stages the call on a full log, at full speed; P is a fetch with many updates pending, and Q a return
- *                                      of many, on any log, O a load of as many slides as fit, and V a restart with
+ *                                      of many, on any log, O a load of as many slides as fit, and S a restart with
  *                                      every page written out just before
  *   counted run SCENE                  the passes and the call, each once: what is counted is chosen by its function's name
  */
@@ -21,8 +21,8 @@ static int stage_file(const char *image, char letter, const char *to)
     else if (letter == 'O')
         stage_load(&scene);
     else
-        stage(&scene, letter == 'V' ? 'R' : letter, FULL);
-    if (letter == 'V')
+        stage(&scene, letter == 'S' ? 'R' : letter, FULL);
+    if (letter == 'S')
         write_out_all(&scene);
     save_scene(&scene, to);
     printf("%u %u\n", records(&scene), pending(&scene));

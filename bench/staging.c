@@ -5,7 +5,7 @@
 enum { OPEN = 8 };
 
 const struct named_call calls[CALLS] = {
-    { "begin", 'B' }, { "fetch", 'F' }, { "next", 'N' }, { "insert", 'I' }, { "delete", 'D' },
+    { "begin", 'B' }, { "fetch", 'F' }, { "next", 'N' }, { "previous", 'V' }, { "insert", 'I' }, { "delete", 'D' },
     { "mark", 'M' }, { "return", 'T' }, { "commit", 'C' }, { "abort", 'A' }, { "write-out", 'W' }, { "restart", 'R' }, { "format", 'Z' },
 };
 
@@ -90,6 +90,7 @@ static struct call with_batch(const struct scene *scene, char letter, uint32_t b
 {
     switch (letter) {
     case 'N': return (struct call){ letter, { batch, some_key(scene) - 1, 0 } };
+    case 'V': return (struct call){ letter, { batch, some_key(scene) + 1, 0 } };
     case 'I': return (struct call){ letter, { batch, no_key(scene), 7 } };
     case 'T': return return_of_all(batch);
     case 'W': return (struct call){ letter, { 1, 0, 0 } };

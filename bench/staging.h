@@ -10,7 +10,7 @@ struct named_call {
     char letter;
 };
 
-enum { CALLS = 12 };
+enum { CALLS = 13 };
 extern const struct named_call calls[CALLS];
 
 enum { FILLS = 3 };

@@ -12,10 +12,10 @@
  * load's columns are arrays of uint32_t.) All numbers in the areas are bytes, most significant first, so an image that one machine wrote is
  * read by any other. The library is made for the machine that makes it; x86-64 Linux is what is tried.
  *
- * IN A HURRY: fill in a struct donzhikar and call the functions whose names end in _in, which stand at the end. They are the thirteen
+ * IN A HURRY: fill in a struct donzhikar and call the functions whose names end in _in, which stand at the end. They are the fourteen
  * functions with one leading argument in place of six pointers and their lengths. There too: what is left (donzhikar_slots_left,
  * donzhikar_pages_left), what a refusal means in words (donzhikar_text), and the loops that everyone writes (donzhikar_list_in,
- * donzhikar_file_in, donzhikar_file_tray_in, donzhikar_come_back_in).
+ * donzhikar_list_back_in, donzhikar_file_in, donzhikar_file_tray_in, donzhikar_come_back_in).
  *
  *
  * WHAT THE CALLER LENDS
@@ -69,18 +69,20 @@
  *       format or a load, do it again. Otherwise the stable areas were damaged: keep them as they are; docs/SERVICE.md says what can be
  *       brought back.
  *    7  The key is 0, which stands for a label that could not be read. Insert, whatever the areas hold. Nothing changes. Slides that an
- *       earlier version filed under 0 are still fetched and deleted; next never finds one, as it looks above the key that it is given.
- *       Load, if any of the keys is 0: the areas stay, the desk becomes empty.
+ *       earlier version filed under 0 are still fetched and deleted, and previous finds them; next never does, as it looks above the key
+ *       that it is given. Load, if any of the keys is 0: the areas stay, the desk becomes empty.
  *    8  The two columns differ in length. Load: the areas stay, the desk becomes empty.
  *    9  The keys do not rise: one is not above the one before it. Load: as 8.
  *   11  The working areas or the desk are not sound: not what calls leave. Every call but format, load and restart. Nothing changes.
  *       After a power failure this is the usual answer until restart has run, and not one to rely on: see COMING BACK.
- *   12  There is no such open batch. Fetch, next, insert, delete, mark, return, commit, abort. Nothing changes.
+ *   12  There is no such open batch. Fetch, next, previous, insert, delete, mark, return, commit, abort. Nothing changes.
  *   13  Eight batches are open. Begin. Nothing changes.
  *   14  The key is held by another open batch, which has inserted or deleted it. Fetch, insert, delete; and next, if another batch holds
- *       any key above the asked one up to the one found, or any key above it if none is found. Nothing changes.
+ *       any key above the asked one up to the one found, or any key above it if none is found; and previous, if another batch holds any
+ *       key from the one found on and below the asked one, or any key below it if none is found. Nothing changes.
  *   15  The key is present. Insert. Nothing changes.
- *   16  The key is absent; or, for next, no key is above the asked one. Fetch, next, delete. Nothing changes.
+ *   16  The key is absent; or, for next, no key is above the asked one; or, for previous, none is below it. Fetch, next, previous, delete.
+ *       Nothing changes.
  *   17  Log slots are short. Begin, insert, delete: nothing changes.
  *       Restart: both working areas become zeros, the desk becomes empty, the stable areas stay as they were.
  *   18  Pages are short. Insert, delete: nothing changes. Restart: as 17. Load: as 8.
@@ -155,6 +157,9 @@
  *   commit      every record that is not yet stored, by rising number, the commit's own last
  *   write-out   the same, then the one page
  *   restart     at its end, the new records by rising number
+ *
+ * A stored page is the working page but for the left links of its leaves, which only working pages have: they are stored as zeros, and
+ * restart works them out. So working pages are never copied onto stable ones by hand: restart would refuse them with 3.
  *
  * A power failure may come between two stores, and the register recovers from it. The host must see to it that
  *
@@ -252,7 +257,7 @@
 extern "C" {
 #endif
 
-#define DONZHIKAR_VERSION "1.3.0"
+#define DONZHIKAR_VERSION "1.4.0"
 
 #define DONZHIKAR_PAGE_BYTES 128
 #define DONZHIKAR_SLOT_BYTES 144
@@ -318,7 +323,7 @@ static inline const char *donzhikar_text(uint32_t reason)
     case DONZHIKAR_ERROR_EIGHT_BATCHES_OPEN: return "eight batches are open";
     case DONZHIKAR_ERROR_HELD_BY_ANOTHER: return "another open batch has changed this slide, or one on the way to it";
     case DONZHIKAR_ERROR_ALREADY_PRESENT: return "the slide is there already";
-    case DONZHIKAR_ERROR_ABSENT: return "there is no such slide, or none above";
+    case DONZHIKAR_ERROR_ABSENT: return "there is no such slide, or none above or below";
     case DONZHIKAR_ERROR_SLOTS_SHORT: return "log slots are short";
     case DONZHIKAR_ERROR_PAGES_SHORT: return "pages are short";
     case DONZHIKAR_ERROR_ABORT_STOPPED: return "an abort or a return ran out of slots or pages";
@@ -363,6 +368,14 @@ uint32_t donzhikar_fetch(
 /* Finds the first slide whose key is above `key`, for an open batch. First value: its key; second value: its value.
  * Refused: 1, 11, 12, 14, 16. */
 uint32_t donzhikar_next(
+    const uint8_t *work_pages, size_t work_pages_length, const uint8_t *stable_pages, size_t stable_pages_length,
+    const uint8_t *work_log, size_t work_log_length, const uint8_t *stable_log, size_t stable_log_length,
+    uint8_t *desk, size_t desk_length, uint8_t *values, size_t values_length,
+    uint32_t batch, uint32_t key);
+
+/* Finds the last slide whose key is below `key`, for an open batch: next, the other way. First value: its key; second value: its value.
+ * Refused: 1, 11, 12, 14, 16. */
+uint32_t donzhikar_previous(
     const uint8_t *work_pages, size_t work_pages_length, const uint8_t *stable_pages, size_t stable_pages_length,
     const uint8_t *work_log, size_t work_log_length, const uint8_t *stable_log, size_t stable_log_length,
     uint8_t *desk, size_t desk_length, uint8_t *values, size_t values_length,
@@ -495,6 +508,14 @@ static inline uint32_t donzhikar_next_in(struct donzhikar *r, uint32_t batch, ui
     return reason;
 }
 
+static inline uint32_t donzhikar_previous_in(struct donzhikar *r, uint32_t batch, uint32_t key, uint32_t *previous_key, uint32_t *value)
+{
+    const uint32_t reason = donzhikar_previous(DONZHIKAR_LENT(r), batch, key);
+    donzhikar_give(r, 0, previous_key);
+    donzhikar_give(r, 1, value);
+    return reason;
+}
+
 static inline uint32_t donzhikar_insert_in(struct donzhikar *r, uint32_t batch, uint32_t key, uint32_t value)
 {
     return donzhikar_insert(DONZHIKAR_LENT(r), batch, key, value);
@@ -597,6 +618,23 @@ static inline uint32_t donzhikar_list_in(
         if (take(with, key, value) != 0)
             return DONZHIKAR_DONE;
         reason = donzhikar_next_in(r, batch, key, &key, &value);
+    }
+    return reason == DONZHIKAR_ERROR_ABSENT ? DONZHIKAR_DONE : reason;
+}
+
+/* The same by falling key, from the other end of the rack. Key 4294967295 is looked up by fetch, as no key is above it. At 14 another open
+ * batch has changed a slide further down. */
+static inline uint32_t donzhikar_list_back_in(
+    struct donzhikar *r, uint32_t batch, int (*take)(void *with, uint32_t key, uint32_t value), void *with)
+{
+    uint32_t key = UINT32_MAX, value = 0;
+    uint32_t reason = donzhikar_fetch_in(r, batch, key, &value);
+    if (reason == DONZHIKAR_ERROR_ABSENT)
+        reason = donzhikar_previous_in(r, batch, key, &key, &value);
+    while (reason == DONZHIKAR_DONE) {
+        if (take(with, key, value) != 0)
+            return DONZHIKAR_DONE;
+        reason = donzhikar_previous_in(r, batch, key, &key, &value);
     }
     return reason == DONZHIKAR_ERROR_ABSENT ? DONZHIKAR_DONE : reason;
 }

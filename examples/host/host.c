@@ -138,6 +138,11 @@ uint32_t host_next(struct host *h, uint32_t batch, uint32_t key)
     return donzhikar_next(AREAS(h), batch, key);
 }
 
+uint32_t host_previous(struct host *h, uint32_t batch, uint32_t key)
+{
+    return donzhikar_previous(AREAS(h), batch, key);
+}
+
 uint32_t host_insert(struct host *h, uint32_t batch, uint32_t key, uint32_t value)
 {
     return donzhikar_insert(AREAS(h), batch, key, value);

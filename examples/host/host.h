@@ -34,6 +34,7 @@ void host_stop(struct host *h);
 uint32_t host_begin(struct host *h);
 uint32_t host_fetch(struct host *h, uint32_t batch, uint32_t key);
 uint32_t host_next(struct host *h, uint32_t batch, uint32_t key);
+uint32_t host_previous(struct host *h, uint32_t batch, uint32_t key);
 uint32_t host_insert(struct host *h, uint32_t batch, uint32_t key, uint32_t value);
 uint32_t host_delete(struct host *h, uint32_t batch, uint32_t key);
 uint32_t host_mark(struct host *h, uint32_t batch);

@@ -1,7 +1,7 @@
 /* A register on a drive, worked by commands on standard input, one a line:
  *
- *   open CASE  file CASE KEY VALUE  remove CASE KEY  find CASE KEY  tray CASE  take-back CASE  commit CASE  cancel CASE
- *   write-out PAGE  list  check
+ *   open CASE  file CASE KEY VALUE  remove CASE KEY  find CASE KEY  next CASE KEY  previous CASE KEY
+ *   tray CASE  take-back CASE  commit CASE  cancel CASE  write-out PAGE  list  check
  *
  * Numbers are decimal and chosen by the user, those of cases too. Each command is answered by itself, a colon, 0 and any answer, or the
  * refusal's number. `list` prints a line `slide KEY VALUE` for each slide first. `check` first prints a line for each copy on the drive that
@@ -99,6 +99,24 @@ static uint32_t find_slide(struct bench *b, const uint32_t *n)
     return reason;
 }
 
+/* A step to a slide, which is answered by its key and its value. */
+static uint32_t stepped(struct bench *b, uint32_t reason)
+{
+    b->answers[0] = donzhikar_value(b->host.values, 0);
+    b->answers[1] = donzhikar_value(b->host.values, 1);
+    return reason;
+}
+
+static uint32_t next_slide(struct bench *b, const uint32_t *n)
+{
+    return stepped(b, host_next(&b->host, batch_of(b, n[0]), n[1]));
+}
+
+static uint32_t previous_slide(struct bench *b, const uint32_t *n)
+{
+    return stepped(b, host_previous(&b->host, batch_of(b, n[0]), n[1]));
+}
+
 static uint32_t begin_tray(struct bench *b, const uint32_t *n)
 {
     struct desk_case *of = case_named(b, n[0]);
@@ -191,7 +209,8 @@ static const struct command {
     uint32_t (*run)(struct bench *b, const uint32_t *n);
 } commands[] = {
     { "open", 1, 0, open_case },     { "file", 3, 0, file_slide },     { "remove", 2, 0, remove_slide },
-    { "find", 2, 1, find_slide },    { "tray", 1, 1, begin_tray },     { "take-back", 1, 1, take_tray_back },
+    { "find", 2, 1, find_slide },    { "next", 2, 2, next_slide },     { "previous", 2, 2, previous_slide },
+    { "tray", 1, 1, begin_tray },    { "take-back", 1, 1, take_tray_back },
     { "commit", 1, 0, commit_case }, { "cancel", 1, 0, cancel_case },  { "write-out", 1, 0, write_out_page },
     { "list", 0, 0, list_slides },   { "check", 0, 0, check_drive },
 };

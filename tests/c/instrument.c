@@ -58,7 +58,7 @@ int numbers_of(char letter)
     switch (letter) {
     case 'Z': case 'O': case 'B': case 'R': return 0;
     case 'C': case 'A': case 'M': case 'W': return 1;
-    case 'F': case 'N': case 'D': case 'T': return 2;
+    case 'F': case 'N': case 'V': case 'D': case 'T': return 2;
     case 'I': return 3;
     default: return -1;
     }
@@ -74,6 +74,7 @@ uint32_t make(struct instrument *in, struct call made)
     case 'B': return donzhikar_begin(LENT);
     case 'F': return donzhikar_fetch(LENT, n[0], n[1]);
     case 'N': return donzhikar_next(LENT, n[0], n[1]);
+    case 'V': return donzhikar_previous(LENT, n[0], n[1]);
     case 'I': return donzhikar_insert(LENT, n[0], n[1], n[2]);
     case 'D': return donzhikar_delete(LENT, n[0], n[1]);
     case 'C': return donzhikar_commit(LENT, n[0]);
@@ -150,7 +151,7 @@ size_t answer_text(char *text, size_t size, char letter, uint32_t reason, const 
         return (size_t)snprintf(text, size, "%u", (unsigned)reason);
     if (letter == 'B' || letter == 'F' || letter == 'M')
         return (size_t)snprintf(text, size, "0 %u", first);
-    if (letter == 'N' || letter == 'R')
+    if (letter == 'N' || letter == 'V' || letter == 'R')
         return (size_t)snprintf(text, size, "0 %u %u", first, second);
     return (size_t)snprintf(text, size, "0");
 }

@@ -56,6 +56,7 @@ static void try_wrappers(void)
     same("insert again", donzhikar_insert(PLAIN, batch, 500, 7), donzhikar_insert_in(&r, batch, 500, 7));
     same("fetch", donzhikar_fetch(PLAIN, batch, 500), donzhikar_fetch_in(&r, batch, 500, &value));
     same("next", donzhikar_next(PLAIN, batch, 0), donzhikar_next_in(&r, batch, 0, &key, &value));
+    same("previous", donzhikar_previous(PLAIN, batch, 501), donzhikar_previous_in(&r, batch, 501, &key, &value));
     same("mark", donzhikar_mark(PLAIN, batch), donzhikar_mark_in(&r, batch, &mark));
     hold(batch == 1 && key == 500 && value == 7 && mark == 2, "answers");
     same("insert after the mark", donzhikar_insert(PLAIN, batch, 501, 8), donzhikar_insert_in(&r, batch, 501, 8));
@@ -121,12 +122,16 @@ static void try_loops(void)
     donzhikar_begin_in(&r, &batch);
     hold(donzhikar_list_in(&r, batch, see, &seen) == DONZHIKAR_DONE && seen.count == 3 && seen.keys[0] == 1 && seen.keys[2] == 16384, "list");
     seen.count = 0;
+    hold(donzhikar_list_back_in(&r, batch, see, &seen) == DONZHIKAR_DONE && seen.count == 3 && seen.keys[0] == 16384 && seen.keys[2] == 1, "list back");
+    seen.count = 0;
     seen.most = 2;
     hold(donzhikar_list_in(&r, batch, see, &seen) == DONZHIKAR_DONE && seen.count == 2, "list up to two");
     donzhikar_begin_in(&r, &other);
     donzhikar_delete_in(&r, other, 500);
     seen.count = 0;
     hold(donzhikar_list_in(&r, batch, see, &seen) == DONZHIKAR_ERROR_HELD_BY_ANOTHER && seen.count == 1, "list, and another holds");
+    seen.count = 0;
+    hold(donzhikar_list_back_in(&r, batch, see, &seen) == DONZHIKAR_ERROR_HELD_BY_ANOTHER && seen.count == 1, "list back, and another holds");
     hold(donzhikar_pending(&r) == 1, "pending");
     hold(donzhikar_file_in(&r, chosen + 1, 1, NULL, NULL) == DONZHIKAR_ERROR_HELD_BY_ANOTHER, "file what another holds");
     hold(donzhikar_file_in(&r, chosen + 1, 1, end_other, &other) == DONZHIKAR_DONE, "file when the other has ended");

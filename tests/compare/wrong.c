@@ -28,6 +28,11 @@ enum deed {
     TAKES_BACK,  /* leaves the working areas and the desk as they were */
     ENDS,        /* aborts the batch besides */
     RESHAPES,    /* gives the loaded tree the shape `with` */
+    FINDS_ASKED, /* answers the asked key, where it is there */
+    UNLINKS,     /* leaves no left link in the working pages */
+    STORES_LINK, /* stores the page with its left link */
+    STAMPS,      /* gives pages whose left link has changed a log number for it */
+    OVERLOOKS,   /* answers as if the left links were right */
     /* And what it does before: */
     DIGS,        /* takes much more stack */
     SHARES,      /* works on pages of its own, which all calls share */
@@ -58,6 +63,8 @@ struct fault {
     /* Only where the call has written nothing; only where the batch has its abort mark. */
     enum { ANY_WRITING, NOTHING_WRITTEN } writing;
     enum { ANY_BATCH, ABORT_MARKED } batch;
+    /* Only where a stable page has a left link. */
+    enum { ANY_LINKS, STABLE_LINK } links;
     /* Only where a load's keys have a 0, do not rise, do not rise but nowhere fall, take more pages than there are, one more, or just these. */
     enum { ANY_COLUMNS, WITH_0, NOT_RISING, ONLY_EQUAL, TOO_MANY, ONE_TOO_MANY, JUST_FITTING } columns;
 };
@@ -170,6 +177,21 @@ static const struct fault faults[] = {
     {"refused-load-keeps-the-desk", 'O', 9, TAKES_BACK, 0, ALWAYS},
     {"refused-load-changes-a-page", 'O', 18, TURNS, WORK_PAGES, ALWAYS},
     {"refused-load-changes-the-stable-log", 'O', 8, TURNS, STABLE_LOG, ALWAYS},
+    {"previous-gives-another-value", 'V', 0, TURNS, VALUES, ALWAYS},
+    {"previous-finds-the-asked-key", 'V', 0, FINDS_ASKED, 0, ALWAYS},
+    {"previous-of-a-held-key-answers-16", 'V', 14, ANSWERS, 16, ALWAYS},
+    {"previous-without-batch-answers-16", 'V', 12, ANSWERS, 16, ALWAYS},
+    {"previous-writes-a-page-and-puts-it-back", 'V', 0, PUTS_BACK, WORK_PAGES, ALWAYS},
+    {"insert-sets-no-left-link", 'I', 0, UNLINKS, 0, ALWAYS},
+    {"delete-sets-no-left-link", 'D', 0, UNLINKS, 0, ALWAYS},
+    {"abort-sets-no-left-link", 'A', 0, UNLINKS, 0, ALWAYS},
+    {"return-sets-no-left-link", 'T', 0, UNLINKS, 0, ALWAYS},
+    {"restart-sets-no-left-link", 'R', 0, UNLINKS, 0, ALWAYS},
+    {"load-sets-no-left-link", 'O', 0, UNLINKS, 0, ALWAYS},
+    {"write-out-stores-the-left-link", 'W', 0, STORES_LINK, 0, ALWAYS},
+    {"left-link-changes-the-log-number", 'I', 0, STAMPS, 0, ALWAYS},
+    {"fetch-judges-no-left-link", 'F', 11, OVERLOOKS, 0, ALWAYS},
+    {"stable-left-link-answers-6", 'R', 3, ANSWERS, 6, .links = STABLE_LINK},
     {"largest-fetch-is-slow", 'F', 0, REPEATS, 0, .least_pages = LARGEST},
 };
 
@@ -356,6 +378,18 @@ static uint32_t fetched(const struct part p[PARTS], uint32_t batch, uint32_t key
     return right_fetch(LENT_ON, values, sizeof values, batch, key);
 }
 
+/* Gives the asked key with its value, where it is there; else the answer stays. */
+static uint32_t found(const struct part p[PARTS], uint32_t batch, uint32_t key)
+{
+    uint8_t values[8];
+    if (right_fetch(LENT_ON, values, sizeof values, batch, key) == 0) {
+        for (size_t i = 0; i < 4; i++)
+            p[VALUES].bytes[i] = (uint8_t)(key >> (24 - 8 * i));
+        memcpy(p[VALUES].bytes + 4, values, 4);
+    }
+    return 0;
+}
+
 static uint32_t ended(const struct part p[PARTS], uint32_t batch)
 {
     uint8_t values[8];
@@ -459,7 +493,7 @@ static int fits_before(const struct part parts[PARTS])
 static void keep(const struct part parts[PARTS])
 {
     const struct fault *f = fault();
-    if (f == NULL || (f->deed != TAKES_BACK && f->writing == ANY_WRITING) || !fits_before(parts))
+    if (f == NULL || (f->deed != TAKES_BACK && f->deed != STAMPS && f->writing == ANY_WRITING) || !fits_before(parts))
         return;
     memcpy(pages_before, parts[WORK_PAGES].bytes, parts[WORK_PAGES].length);
     memcpy(log_before, parts[WORK_LOG].bytes, parts[WORK_LOG].length);
@@ -641,6 +675,68 @@ static void reshape(uint8_t *pages, enum shape shape)
         set_number(end + 4, key_at(keys_of_page(end), keys_of_page(end).count - 1));
 }
 
+/* A leaf's left link; other pages have none. */
+static uint32_t link_of(const uint8_t *page)
+{
+    return page[0] >> 6 == 1 ? number_at(page) >> 2 & 1023 : 0;
+}
+
+static void set_link(uint8_t *page, uint32_t link)
+{
+    set_number(page, (number_at(page) & ~(1023u << 2)) | link << 2);
+}
+
+/* Works the left links out along the leaves, as far as there are any. */
+static void relink(uint8_t *pages, uint32_t count)
+{
+    uint32_t number = 1, before = 0;
+    for (uint32_t level = level_of(page_at(pages, 1)); level > 0 && number < count; level--)
+        number = number_at(page_at(pages, number) + PAGE_ENTRIES + 4);
+    for (uint32_t steps = 0; number != 0 && number < count && steps < count; steps++) {
+        uint8_t *page = page_at(pages, number);
+        set_link(page, before);
+        before = number;
+        number = number_at(page) >> 12 & 1023;
+    }
+}
+
+/* What a fetch answers on pages whose left links are worked out first. */
+static uint32_t fetched_relinked(const struct part parts[PARTS], uint32_t batch, uint32_t key)
+{
+    struct part linked[PARTS];
+    if (!fits_before(parts))
+        return 11;
+    memcpy(linked, parts, sizeof linked);
+    linked[WORK_PAGES].bytes = memcpy(pages_before, parts[WORK_PAGES].bytes, parts[WORK_PAGES].length);
+    relink(pages_before, (uint32_t)(parts[WORK_PAGES].length / PAGE_BYTES));
+    return fetched(linked, batch, key);
+}
+
+static int links_are(const struct fault *f, const struct part parts[PARTS])
+{
+    const struct part *pages = &parts[STABLE_PAGES];
+    for (size_t at = 0; f->links == STABLE_LINK && at < pages->length; at += PAGE_BYTES)
+        if (link_of(pages->bytes + at) != 0)
+            return 1;
+    return f->links == ANY_LINKS;
+}
+
+/* What is wrong with the left links after the call. */
+static void mislink(enum deed deed, const struct part parts[PARTS], uint32_t stored)
+{
+    const struct part *pages = &parts[WORK_PAGES];
+    uint32_t written = number_at(parts[DESK].bytes + WRITTEN_AT);
+    if (deed == STORES_LINK)
+        memcpy(page_at(parts[STABLE_PAGES].bytes, stored), page_at(pages->bytes, stored), PAGE_BYTES);
+    for (size_t at = 0; at < pages->length; at += PAGE_BYTES) {
+        uint8_t *page = pages->bytes + at;
+        if (deed == UNLINKS && link_of(page) != 0)
+            set_link(page, 0);
+        if (deed == STAMPS && link_of(page) != link_of(pages_before + at))
+            set_number(page + 8, written);
+    }
+}
+
 /* What the wrong call returns where the right one has returned `reason` and left these parts. */
 static uint32_t spoiled(char letter, uint32_t reason, const struct part parts[PARTS], const uint32_t numbers[])
 {
@@ -649,7 +745,7 @@ static uint32_t spoiled(char letter, uint32_t reason, const struct part parts[PA
         memcpy(parts[WORK_PAGES].bytes, shared, parts[WORK_PAGES].length);
     if (!concerns(f, letter, parts) || f->when != reason || !room_is(f, parts) || !last_is(f, parts)
         || !key_is(f, parts, numbers) || !mark_is(f, parts, numbers) || !writing_is(f, parts) || !batch_is(f, parts, numbers[1])
-        || !columns_are(f, parts))
+        || !columns_are(f, parts) || !links_are(f, parts))
         return reason;
     if (f->deed == ANSWERS)
         return f->with;
@@ -657,6 +753,14 @@ static uint32_t spoiled(char letter, uint32_t reason, const struct part parts[PA
         take_back(parts);
     if (f->deed == ENDS)
         return ended(parts, numbers[1]);
+    if (f->deed == OVERLOOKS)
+        return fetched_relinked(parts, numbers[1], numbers[2]);
+    if (f->deed == FINDS_ASKED)
+        return found(parts, numbers[1], numbers[2]);
+    if (f->deed == UNLINKS || f->deed == STORES_LINK || f->deed == STAMPS) {
+        mislink(f->deed, parts, numbers[1]);
+        return reason;
+    }
     if (f->deed == RESHAPES) {
         reshape(parts[WORK_PAGES].bytes, f->with);
         reshape(parts[STABLE_PAGES].bytes, f->with);
@@ -727,6 +831,7 @@ uint32_t donzhikar_load(LENT, const uint32_t *keys, size_t keys_length, const ui
 WRONG('B', begin, NONE, NONE)
 WRONG('F', fetch, TAKES_2, GIVES_2)
 WRONG('N', next, TAKES_2, GIVES_2)
+WRONG('V', previous, TAKES_2, GIVES_2)
 WRONG('I', insert, TAKES_3, GIVES_3)
 WRONG('D', delete, TAKES_2, GIVES_2)
 WRONG('C', commit, TAKES_1, GIVES_1)

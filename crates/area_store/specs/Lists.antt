@@ -7,9 +7,9 @@ use lib.ListN.{take, length, getD}
 use lib.Dec.{ltb}
 use Rattle.def_base.specs.Tests.{pick}
 use Rattle.def_layout.specs.Sizes.{page-size, slot-size, most-slots}
-use Rattle.def_layout.specs.PageBytes.{page-bytes}
+use Rattle.def_layout.specs.PageBytes.{page-bytes, without-left}
 use Rattle.def_layout.specs.RecordBytes.{empty, slot-bytes}
-use Rattle.def_model.specs.Areas.{Store, store-page, store-slot, stored-page}
+use Rattle.def_model.specs.Areas.{Store, store-page, store-slot}
 use Rattle.def_model.specs.Log.{slot-of}
 use Rattle.def_model.specs.OnBytes.{Lent, store-all-bytes}
 use Rattle.law_bytes.specs.Words.{part}
@@ -52,9 +52,9 @@ Fits s wp sp wl sl =
 abbrev pub kth : List Store → ℕ → Store
 kth ts k = getD ts k (store-slot 0 empty)
 
--- A STORE GOES TO A PLACE: it is that place's, and its bytes stand there in the working area.
+-- A STORE GOES TO A PLACE: it is that place's, and its bytes stand there in the working area, a page's with its left link.
 unfoldable pub Goes : (wp wl : List ℕ) → Place → Store → Type 0
-Goes wp wl (Page p) (store-page q x) = (q ≡ p) × (page-bytes (stored-page x) ≡ part wp (page-size * p) page-size)
+Goes wp wl (Page p) (store-page q x) = (q ≡ p) × (page-bytes x ≡ without-left (part wp (page-size * p) page-size))
 Goes wp wl (Page p) (store-slot n x) = ⊥
 Goes wp wl (Slot i) (store-page q x) = ⊥
 Goes wp wl (Slot i) (store-slot n x) = (slot-of n ≡ i) × (slot-bytes x ≡ part wl (slot-size * i) slot-size)

@@ -10,7 +10,7 @@ use lib.Dec.{ltb}
 use lib.Seq.{take-at, drop-append-add, getD-append-add}
 use Rattle.def_base.specs.Tests.{Case, yes!, no!, case, true-lt, false-lt}
 use Rattle.def_layout.specs.Pages.{Page, at, zero-page}
-use Rattle.def_layout.specs.PageBytes.{page, page-bytes, block-bytes}
+use Rattle.def_layout.specs.PageBytes.{page, page-bytes, block-bytes, without-left}
 use Rattle.def_layout.specs.Sizes.{page-size, slot-size}
 use Rattle.def_layout.specs.RecordBytes.{Slot, empty, slot-bytes}
 use Rattle.def_model.specs.Areas.{Store, store-page, store-slot, slot-stores}
@@ -19,6 +19,7 @@ use Rattle.def_model.specs.OnBytes.{joined, pages-bytes, log-bytes}
 use Rattle.law_bytes.specs.Words.{part}
 use Rattle.law_bytes.specs.Pieces.{All}
 use Rattle.law_bytes.specs.PageBytes.{page-bytes-length}
+use Rattle.law_bytes.specs.LeftLinks.{none-gone}
 use Rattle.law_areas.specs.Parts.{Wide, mul-up}
 use Rattle.area_store.specs.declared.Span.{Span}
 use Rattle.area_store.specs.declared.Stores.{Stores}
@@ -41,7 +42,7 @@ abbrev pub SlotsAt : List ℕ → ℕ → List Slot → Type 0
 SlotsAt wl i xs = (k : ℕ) → k < length xs → slot-bytes (getD xs k empty) ≡ part wl (slot-size * (i + k)) slot-size
 
 abbrev pub PagesAt : List ℕ → ℕ → List Page → Type 0
-PagesAt wp i xs = (k : ℕ) → k < length xs → page-bytes (at xs k) ≡ part wp (page-size * (i + k)) page-size
+PagesAt wp i xs = (k : ℕ) → k < length xs → page-bytes (at xs k) ≡ without-left (part wp (page-size * (i + k)) page-size)
 
 pub slot-part : (xs : List Slot) (i : ℕ) → Wide slot-size (map slot-bytes xs) → i < length xs → part (log-bytes xs) (slot-size * i) slot-size ≡ slot-bytes (getD xs i empty)
 unfolding log-bytes
@@ -73,11 +74,12 @@ log-at wl xs h e k l =
 pub pages-at : (wp : List ℕ) (xs : List Page) → wp ≡ pages-bytes (map page xs) → PagesAt wp 0 xs
 pages-at wp xs e k l =
     let z : k ≡ 0 + k = omega arith in
-    sym (page-part xs k l) ∙ ap (λ (b : List ℕ). part b (page-size * k) page-size) (sym e) ∙ ap (λ (i : ℕ). part wp (page-size * i) page-size) z
+    sym (none-gone (at xs k))
+    ∙ ap without-left (sym (page-part xs k l) ∙ ap (λ (b : List ℕ). part b (page-size * k) page-size) (sym e) ∙ ap (λ (i : ℕ). part wp (page-size * i) page-size) z)
 
 -- One page.
-pub page-alone : (wp : List ℕ) (p : ℕ) (x : Page) → part wp (page-size * p) page-size ≡ page-bytes x → PagesAt wp p (x ∷ [])
-page-alone wp p x e zero l = let z : p ≡ p + 0 = omega arith in sym e ∙ ap (λ (i : ℕ). part wp (page-size * i) page-size) z
+pub page-alone : (wp : List ℕ) (p : ℕ) (x : Page) → without-left (part wp (page-size * p) page-size) ≡ page-bytes x → PagesAt wp p (x ∷ [])
+page-alone wp p x e zero l = let z : p ≡ p + 0 = omega arith in sym e ∙ ap (λ (i : ℕ). without-left (part wp (page-size * i) page-size)) z
 page-alone wp p x e (suc k) l = absurd (omega (arith, l))
 
 -- ---- the k-th

@@ -10,7 +10,7 @@ use lib.Dec.{ltb}
 use lib.Seq.{take-suc, take-all}
 use Rattle.def_base.specs.Tests.{Case, yes!, no!, case, true-lt, false-lt}
 use Rattle.def_layout.specs.Sizes.{page-size, slot-size}
-use Rattle.def_layout.specs.PageBytes.{page-bytes}
+use Rattle.def_layout.specs.PageBytes.{page-bytes, without-left}
 use Rattle.def_layout.specs.RecordBytes.{empty, slot-bytes}
 use Rattle.def_model.specs.Areas.{Store, store-page, store-slot}
 use Rattle.def_model.specs.OnBytes.{Lent, store-bytes, store-all-bytes}
@@ -80,7 +80,7 @@ fits-still s wp sp wl sl sp′ sl′ p q f =
 -- ---- one store
 
 module _ (wp sp wl sl : List ℕ) where
-  page-store : (p : ℕ) (t : Store) → Goes wp wl (Page p) t → lent wp (patch sp (page-size * p) (part wp (page-size * p) page-size)) wl sl ≡ store-bytes t (lent wp sp wl sl)
+  page-store : (p : ℕ) (t : Store) → Goes wp wl (Page p) t → lent wp (patch sp (page-size * p) (without-left (part wp (page-size * p) page-size))) wl sl ≡ store-bytes t (lent wp sp wl sl)
   unfolding Goes store-bytes
   page-store p (store-page q x) g =
       ap (λ (b : List ℕ). lent wp b wl sl)
@@ -99,7 +99,7 @@ module _ (wp sp wl sl : List ℕ) where
     goes-there : Goes wp wl at (kth ts k)
     goes-there = subst (λ (a : Place). Goes wp wl a (kth ts k)) (sym e) (l .goes k h)
 
-    pub page-made : (p : ℕ) (sp′ : List ℕ) → at ≡ Page p → sp′ ≡ patch sp (page-size * p) (part wp (page-size * p) page-size)
+    pub page-made : (p : ℕ) (sp′ : List ℕ) → at ≡ Page p → sp′ ≡ patch sp (page-size * p) (without-left (part wp (page-size * p) page-size))
         → lent wp sp′ wl sl ≡ store-bytes (kth ts k) (lent wp sp wl sl)
     page-made p sp′ a c =
         ap (λ (b : List ℕ). lent wp b wl sl) c ∙ page-store p (kth ts k) (subst (λ (q : Place). Goes wp wl q (kth ts k)) a goes-there)

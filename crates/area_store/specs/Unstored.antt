@@ -7,7 +7,7 @@ use mathlib.Core.List.{List, [], _∷_, _++_, map, map-append}
 use lib.ListN.{take, drop, length, getD, replicate, length-drop, length-append}
 use lib.Seq.{take-at, drop-append-le, getD-take, getD-drop}
 use Rattle.def_layout.specs.Pages.{Page}
-use Rattle.def_layout.specs.PageBytes.{page-bytes}
+use Rattle.def_layout.specs.PageBytes.{page-bytes, without-left}
 use Rattle.def_layout.specs.Sizes.{page-size, slot-size}
 use Rattle.def_layout.specs.Records.{Rec}
 use Rattle.def_layout.specs.RecordBytes.{Slot, empty, slot-bytes}
@@ -87,7 +87,7 @@ module _ (m stored budget : ℕ) (log : List Rec) (wl : List ℕ) (work : wl ≡
       ∙ ap (λ (us : List Store). store-all-bytes (take budget us) (lent wp sp wl sl)) (sym o))
 
   -- RECORDS, THEN PAGE p.
-  pub write-out-list : (wp : List ℕ) (p : ℕ) (x : Page) → part wp (page-size * p) page-size ≡ page-bytes x → (n : ℕ) → n ≡ length log - stored
+  pub write-out-list : (wp : List ℕ) (p : ℕ) (x : Page) → without-left (part wp (page-size * p) page-size) ≡ page-bytes x → (n : ℕ) → n ≡ length log - stored
       → Lists wp wl (record { first = record { pages = false; from = stored; count = n }; rest = record { pages = true; from = p; count = 1 } }) (log-stores stored log ++ store-page p x ∷ [])
   unfolding log-stores page-stores
   write-out-list wp p x e n c =

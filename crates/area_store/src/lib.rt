@@ -3,6 +3,7 @@
 // 01: "a call's stores are a run of one-store steps with a budget". A call names its list of stores; `store_one` makes one store of a list
 // and no other, once those before it are made; `store_first` is the only loop over it.
 use codec_bytes::copy_part;
+use codec_page::store_at;
 use def_layout::PAGE_SIZE;
 use def_layout::SLOT_SIZE;
 ghost use mathlib.Core.Path.{_≡_};
@@ -68,7 +69,7 @@ fn store_one(sp: &mut [u8], sl: &mut [u8], wp: &[u8], wl: &[u8], s: Stores, k: u
     match at {
         Place::Page(p) => {
             let a = PAGE_SIZE * p;
-            copy_part(sp, a, wp, a, PAGE_SIZE);
+            store_at(sp, wp, a);
         }
         Place::Slot(i) => {
             let a = SLOT_SIZE * i;

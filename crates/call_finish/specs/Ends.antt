@@ -6,18 +6,20 @@ use mathlib.Core.Bool.{true, false}
 use mathlib.Core.List.{List, [], _∷_, append-nil}
 use lib.ListN.{length, getD}
 use lib.Dec.{leb}
-use Rattle.def_base.specs.Tests.{lt-true, le-false, true-le, and-true}
+use Rattle.def_base.specs.Tests.{lt-true, le-true, le-false, true-le, and-true}
+use Rattle.def_layout.specs.Entries.{top}
 use Rattle.def_layout.specs.declared.Desk.{Desk}
 use Rattle.def_layout.specs.Desks.{row-at}
 use Rattle.def_layout.specs.Pages.{Page, at}
-use Rattle.def_layout.specs.PageBytes.{page-bytes}
+use Rattle.def_layout.specs.PageBytes.{page-bytes, without-left}
 use Rattle.def_layout.specs.Sizes.{page-size}
 use Rattle.def_layout.specs.Records as records
 use Rattle.def_layout.specs.Records.{batch-row}
 use Rattle.def_model.specs.declared.Refusal.the-variants.{NoBatch}
 use Rattle.def_model.specs.declared.Answer.the-variants.{Done, Refused}
 use Rattle.def_model.specs.Areas.{store-page}
-use Rattle.def_model.specs.Answers.{first-broken}
+use Rattle.def_model.specs.Answers.{first-broken, passed}
+use Rattle.def_recovery.specs.Events.{of-32-bits}
 use Rattle.def_model.specs.Batches.{find-batch, unmarked, desk-of}
 use Rattle.def_model.specs.Update.{Run, emit}
 use Rattle.def_model.specs.Undo.{abort-run}
@@ -29,7 +31,8 @@ use Rattle.law_areas.specs.Logs.{AllFit, log-filled}
 use Rattle.area_lengths.specs.Lent.{lent}
 use Rattle.theory_ledger.specs.Batching.{find-number}
 use Rattle.area_store.specs.Lists.{Leads}
-use Rattle.area_store.specs.Parts.{page-part}
+use Rattle.law_bytes.specs.LeftLinks.{left-gone}
+use Rattle.law_areas.specs.WorkPages.{page-there, links-at}
 use Rattle.area_store.specs.Beside.{SlotsLeft}
 use Rattle.area_store.specs.Unstored.{records-left, write-out-list}
 use Rattle.law_bytes.specs.DeskRows.{without}
@@ -43,19 +46,20 @@ use Rattle.log_pending.specs.Holding.{Sits}
 use Rattle.tree_write.specs.declared.Run as run
 use Rattle.tree_write.specs.Shows.{Shows}
 use Rattle.call_reply.specs.declared.Reply.{Reply}
-use Rattle.call_reply.specs.Replies.{Replies, left-run, left-stored, typed-pages}
+use Rattle.call_reply.specs.Replies.{Replies, Links, leaves-same, left-linked, left-stored}
 use Rattle.theory_calls.specs.Checks.{sound-parts}
 use Rattle.theory_sound.specs.Kept.{Lendable}
 use Rattle.theory_sound.specs.SoundKept.{abort-finds-room}
 use Rattle.theory_sound.specs.OfBytes.{lendable}
 use Rattle.sound_register.specs.declared.Standing.{Standing}
 use Rattle.call_slides.specs.Checked.{commit-goes, abort-goes, write-out-goes}
-use Rattle.call_slides.specs.Given.{Given, areas, Answers, refuse, given-chain, given-slots, given-pages, open-place, open-zero, open-found, live-some, last-is}
+use Rattle.call_slides.specs.Given.{Given, areas, Answers, refuse, given-chain, given-slots, given-pages, given-links, quiet-links, open-place, open-zero, open-found, live-some, last-is}
 
--- The page that stands in an area.
-page-there : {n : ℕ} {area : List ℕ} {xs : List Page} → Pages n area xs → (p : ℕ) → p < n → part area (page-size * p) page-size ≡ page-bytes (at xs p)
-page-there {n} {area} {xs} h p l =
-    ap (λ (b : List ℕ). part b (page-size * p) page-size) (h .bytes ∙ sym (typed-pages xs)) ∙ page-part xs p (subst (λ (k : ℕ). p < k) (sym (h .size)) l)
+-- The page that stands in an area, without its left link.
+stands : {n : ℕ} {area : List ℕ} {xs : List Page} {ls : List ℕ} → Pages n area xs ls → (p : ℕ) → p < n → without-left (part area (page-size * p) page-size) ≡ page-bytes (at xs p)
+stands {n} {area} {xs} {ls} h p l =
+    let i : p < length xs = subst (λ (k : ℕ). p < k) (sym (h .size)) l in
+    ap without-left (ap (λ (b : List ℕ). part b (page-size * p) page-size) (h .bytes) ∙ page-there xs ls p i (h .links)) ∙ left-gone (at xs p) (getD ls p 0) (links-at xs ls p i (h .links))
 
 -- Every record that a sound register shows fits its slot.
 pub batch-fits : {n m : ℕ} {wp sp wl sl : List ℕ} {d : Desk} {st : Standing} (g : Given n m wp sp wl sl d st) → AllFit 1 (run-of (areas g) .log)
@@ -108,24 +112,24 @@ module _ {n m : ℕ} {wp sp wl sl : List ℕ} {d : Desk} {st : Standing} (g : Gi
           let z = open-zero g b i e h in
           let len : length (s .log) ≡ u .logged = sh .logged in
           let w = records-left m (d .stored) budget (s .log) wl′ (log-filled m (s .log) (sh .log) (sh .size)) (omega (arith, len)) _ (append-nil _) (u .logged) (sym len) wp sp wl sl sl′ left in
-          left-stored (commit b) wp sp wl sl d (g .lengths) Done budget s [] r sp sl′ (given-slots g) (commit-goes (areas g) d (g .is-sound) b alive ∙ rw (← l)) sh a
+          left-stored (commit b) wp sp wl sl d (g .lengths) Done budget s [] r sp sl′ (given-slots g) (commit-goes (areas g) d (g .is-sound) b alive ∙ rw (← l)) (leaves-same sh (quiet-links g records.commit b (row-at (d .rows) i .last) refl)) a
           (k ∙ ap (λ (j : ℕ). record { rows = without (d .rows) i; logged = u .logged; stored = j }) (sym len)
           ∙ sym (commit-desk (run-of (areas g)) d (given-chain g) (g .known .desk) b _ i (u .logged) (length (s .log)) (z .0) (z .1) h goes (sym len)))
           (w .0)
           (w .1)
 
     -- ABORT: never short of room.
-    pub abort-0 : {wp′ wl′ : List ℕ} (u : run.Run) → Shows n m wp′ wl′ u (abort-run (batch-at (work-open (areas g)) i) (run-of (areas g))) → r .answer ≡ Done
+    pub abort-0 : {wp₁ wp′ wl′ : List ℕ} (u : run.Run) → b ≤ top → Shows n m wp₁ wl′ u (abort-run (batch-at (work-open (areas g)) i) (run-of (areas g))) → Links n wp₁ wp′ → r .answer ≡ Done
         → r .desk ≡ record { rows = without (d .rows) i; logged = u .logged; stored = d .stored } → Replies (abort b) (lent wp sp wl sl) d budget r (lent wp′ sp wl′ sl)
-    unfolding outcome aborted run-of read-areas
-    abort-0 {wp′} {wl′} u sh a k =
+    unfolding outcome aborted run-of read-areas of-32-bits passed
+    abort-0 u bt sh links a k =
         let y = batch-at (work-open (areas g)) i in
         let z = open-zero g b i e h in
         let c : Lendable (areas g) = lendable (lent wp sp wl sl) (g .lengths) in
         let f : abort-of b (areas g) ≡ abort-run y (run-of (areas g)) = ap (λ o. aborted o (run-of (areas g))) (open-found g b i e h) in
         let never = abort-finds-room (areas g) d (c .few) (c .equal) (c .small) (g .is-sound) b alive in
         let num : y .number ≡ b = sym (find-number b (work-open (areas g)) y (open-found g b i e h)) in
-        left-run (abort b) wp sp wl sl d (g .lengths) Done budget (abort-run y (run-of (areas g))) r (given-slots g) (abort-goes (areas g) d (g .is-sound) b alive never ∙ rw f) sh a
+        left-linked (abort b) wp sp wl sl d (g .lengths) Done budget (abort-run y (run-of (areas g))) r (le-true b top bt) refl (given-slots g) (abort-goes (areas g) d (g .is-sound) b alive never ∙ rw f) sh links a
         (k ∙ sym (abort-desk (run-of (areas g)) d (given-chain g) (g .known .desk) y b i (u .logged) (d .stored) num (z .0) (z .1) h (ap (λ t. t .stop) (sym f) ∙ never) (sym (sh .logged))))
 
 module _ {n m : ℕ} {wp sp wl sl : List ℕ} {d : Desk} {st : Standing} (g : Given n m wp sp wl sl d st) (p budget : ℕ) (r : Reply) (few : p < n) where
@@ -138,10 +142,10 @@ module _ {n m : ℕ} {wp sp wl sl : List ℕ} {d : Desk} {st : Standing} (g : Gi
       let x = at (work-pages (areas g)) p in
       let len : d .logged - d .stored ≡ length log - d .stored = ap (λ (j : ℕ). j - d .stored) (g .known .logged) in
       let sh = g .known .shows sp in
-      let there : part wp (page-size * p) page-size ≡ page-bytes x = page-there (g .known .pages) p few in
+      let there : without-left (part wp (page-size * p) page-size) ≡ page-bytes x = stands (g .known .pages) p few in
       let w = sym (stored _ (write-out-list m (d .stored) budget log wl (log-filled m log (sh .log) (sh .size)) (g .known .stored) wp p x there (d .logged - d .stored) len)) in
       left-stored (write-out p) wp sp wl sl d (g .lengths) Done budget (run-of (areas g)) (store-page p x ∷ []) r sp′ sl′ (given-slots g)
-      (write-out-goes (areas g) d (g .is-sound) p (le-false _ _ (subst (λ (j : ℕ). p < j) (sym (given-pages g)) few))) sh a
+      (write-out-goes (areas g) d (g .is-sound) p (le-false _ _ (subst (λ (j : ℕ). p < j) (sym (given-pages g)) few))) (leaves-same sh (given-links g)) a
       (k ∙ ap (λ (j : ℕ). record { rows = d .rows; logged = j; stored = j }) (g .known .logged) ∙ ap (λ (q : Desk). record { rows = q .rows; logged = length log; stored = length log }) (g .known .desk))
       (ap (λ (q : Lent). q .stable-pages) w)
       (ap (λ (q : Lent). q .stable-log) w)

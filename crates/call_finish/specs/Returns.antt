@@ -1,5 +1,5 @@
 -- Mark and return, reply by reply.
-use mathlib.Core.Path.{_≡_, ap, sym, _∙_, subst}
+use mathlib.Core.Path.{_≡_, refl, ap, sym, _∙_, subst}
 use Prim.Native.Nat.{ℕ, _<_, _≤_}
 use mathlib.Core.Bool.{Bool, true, false}
 use mathlib.Core.List.{List}
@@ -9,7 +9,10 @@ use Rattle.def_layout.specs.declared.Desk.{Desk}
 use Rattle.def_layout.specs.Desks.{row-at}
 use Rattle.def_model.specs.declared.Refusal.the-variants.{NoBatch, NoMark}
 use Rattle.def_model.specs.declared.Answer.the-variants.{Done, Number, Refused}
-use Rattle.def_model.specs.Answers.{first-broken}
+use Rattle.def_model.specs.Answers.{first-broken, passed}
+use Rattle.def_base.specs.Tests.{and-both, le-true}
+use Rattle.def_layout.specs.Entries.{top}
+use Rattle.def_recovery.specs.Events.{of-32-bits}
 use Rattle.def_model.specs.Batches.{next-undo, is-record-of, row-of}
 use Rattle.def_model.specs.Undo.{undo-above, return-run}
 use Rattle.def_model.specs.Sound.{work-log, work-open}
@@ -27,7 +30,7 @@ use Rattle.theory_sound.specs.OfBytes.{lendable}
 use Rattle.log_pending.specs.Reading.{TellsOf}
 use Rattle.tree_write.specs.Shows.{Shows}
 use Rattle.call_reply.specs.declared.Reply.{Reply}
-use Rattle.call_reply.specs.Replies.{Replies, left-run}
+use Rattle.call_reply.specs.Replies.{Replies, Links, left-linked}
 use Rattle.sound_register.specs.declared.Standing.{Standing}
 use Rattle.call_slides.specs.Checked.{mark-goes, return-goes}
 use Rattle.call_slides.specs.Given.{Given, areas, Answers, answer, refuse, given-chain, given-slots, open-place, open-zero, open-none, open-found, open-some, last-is, row-is}
@@ -57,11 +60,11 @@ module _ {n m : ℕ} {wp sp wl sl : List ℕ} {d : Desk} {st : Standing} (g : Gi
   return-20 mark h q = refuse g (return-to b mark) NoMark (rw (g .is-sound, open-some g b i e h, q))
 
   -- A RETURN, never short of room: the batch's row says what is left.
-  pub return-0 : (mark budget : ℕ) (r : Reply) (h : i < 8) {wp′ wl′ : List ℕ} (x : Turn) → is-record-of b mark (work-log (areas g)) ≡ true
-      → Leaves n m wp′ wl′ mark (row-at (d .rows) i) (batch-at (work-open (areas g)) i .lines) (run-of (areas g)) x → r .answer ≡ Done
+  pub return-0 : (mark budget : ℕ) (r : Reply) (h : i < 8) {wp₁ wp′ wl′ : List ℕ} (x : Turn) → b ≤ top → mark ≤ top → is-record-of b mark (work-log (areas g)) ≡ true
+      → Leaves n m wp₁ wl′ mark (row-at (d .rows) i) (batch-at (work-open (areas g)) i .lines) (run-of (areas g)) x → Links n wp₁ wp′ → r .answer ≡ Done
       → r .desk ≡ record { rows = set (d .rows) i (x .row); logged = x .run .logged; stored = d .stored } → Replies (return-to b mark) (lent wp sp wl sl) d budget r (lent wp′ sp wl′ sl)
-  unfolding outcome returned run-of read-areas return-run row-of
-  return-0 mark budget r h {wp′} {wl′} x ok left a k =
+  unfolding outcome returned run-of read-areas return-run row-of of-32-bits passed
+  return-0 mark budget r h {wp₁} {wp′} {wl′} x bt mt ok left links a k =
       let y = batch-at (work-open (areas g)) i in
       let s = run-of (areas g) in
       let f = open-found g b i e h in
@@ -73,10 +76,10 @@ module _ {n m : ℕ} {wp sp wl sl : List ℕ} {d : Desk} {st : Standing} (g : Gi
       let run : return-of b mark (areas g) ≡ return-run mark y s = ap (λ o. returned mark o s) f in
       let batch : row-at (d .rows) i .batch ≡ y .number = ap (λ (q : Row). q .batch) (row-is g i) in
       let last : row-at (d .rows) i .last ≡ y .last = ap (λ (q : Row). q .last) (row-is g i) in
-      let sh : Shows n m wp′ wl′ (x .run) (return-run mark y s) = subst (λ (q : ℕ). Shows n m wp′ wl′ (x .run) (undo-above mark q (y .lines) s)) batch (left .shows) in
+      let sh : Shows n m wp₁ wl′ (x .run) (return-run mark y s) = subst (λ (q : ℕ). Shows n m wp₁ wl′ (x .run) (undo-above mark q (y .lines) s)) batch (left .shows) in
       let row : x .row ≡ record { batch = b; last = rt .last; undo = next-undo (kept mark (y .lines)); pending = length (kept mark (y .lines)) } =
       left .row-is ∙ (λ j. record { batch = (batch ∙ num) j; last = last-after mark ((batch ∙ num) j) (y .lines) s (last j); undo = next-undo (kept mark (y .lines)); pending = length (kept mark (y .lines)) })
       ∙ ap (λ (q : ℕ). record { batch = b; last = q; undo = next-undo (kept mark (y .lines)); pending = length (kept mark (y .lines)) }) (sym (rt .last-is)) in
-      left-run (return-to b mark) wp sp wl sl d (g .lengths) Done budget (return-run mark y s) r (given-slots g) (return-goes (areas g) d (g .is-sound) b (open-some g b i e h) mark ok never ∙ rw run) sh a
+      left-linked (return-to b mark) wp sp wl sl d (g .lengths) Done budget (return-run mark y s) r (and-both (le-true b top bt) (le-true mark top mt)) refl (given-slots g) (return-goes (areas g) d (g .is-sound) b (open-some g b i e h) mark ok never ∙ rw run) sh links a
       (k ∙ ap (λ (q : Row). record { rows = set (d .rows) i q; logged = x .run .logged; stored = d .stored }) row
       ∙ sym (desk-returned (s .log) d (given-chain g) (g .known .desk) (return-run mark y s .log) b i (rt .last) (x .run .logged) (d .stored) (kept mark (y .lines)) (z .0) (z .1) h (rt .opens) (sym (sh .logged))))

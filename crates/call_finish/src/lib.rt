@@ -15,6 +15,7 @@ use def_model::Answer;
 use def_model::Refusal;
 use log_pending::is_record_of;
 use sound_register::Standing;
+use tree_links::relink;
 use tree_write::Run;
 use tree_write::note;
 ghost use mathlib.Core.List.{List};
@@ -86,6 +87,7 @@ pub fn abort_in(
     };
     let row = d.rows[i];
     let u = abort_run(wp, wl, n, m, t, row);
+    relink(wp, n);
     let rows = d.rows;
     let desk = d.with_rows(closed(rows, i));
     Reply {
@@ -139,6 +141,7 @@ pub fn return_in(
     };
     let row = d.rows[i];
     let x = undo_above(wp, wl, n, m, t, mark, row);
+    relink(wp, n);
     let left = x.row;
     let run = x.run;
     Reply {

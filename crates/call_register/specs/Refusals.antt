@@ -16,9 +16,9 @@ use Rattle.def_model.specs.declared.Answer.the-variants.{Refused}
 use Rattle.def_model.specs.Answers.{first-broken}
 use Rattle.def_model.specs.Areas.{Areas}
 use Rattle.def_model.specs.Sound.{sound}
-use Rattle.def_model.specs.Calls.{begin-checks, fetch-checks, next-checks, insert-checks, delete-checks, commit-checks, abort-checks, mark-checks, return-checks, write-out-checks}
-use Rattle.def_model.specs.OnBytes.{Call, Lent, format, load, restart, begin, fetch, next, insert, delete, commit, abort, write-out, lengths-ok, refused-desk, read-areas, take-mark, return-to}
-use Rattle.law_areas.specs.Pages.{read-pages-length}
+use Rattle.def_model.specs.Calls.{begin-checks, fetch-checks, next-checks, previous-checks, insert-checks, delete-checks, commit-checks, abort-checks, mark-checks, return-checks, write-out-checks}
+use Rattle.def_model.specs.OnBytes.{Call, Lent, format, load, restart, begin, fetch, next, previous, insert, delete, commit, abort, write-out, lengths-ok, refused-desk, read-areas, take-mark, return-to}
+use Rattle.law_areas.specs.Working.{read-work-length}
 use Rattle.area_lengths.specs.Lent.{lent, Sized, lengths-numbers}
 use Rattle.call_reply.specs.declared.Reply.{Reply}
 use Rattle.call_reply.specs.Replies.{Replies, lengths-refused, left-alone}
@@ -32,6 +32,7 @@ names restart = none
 names begin = some 0
 names (fetch b k) = some 0
 names (next b k) = some 0
+names (previous b k) = some 0
 names (insert b k v) = pick (eqb k 0) none (some 0)
 names (delete b k) = some 0
 names (commit b) = some 0
@@ -55,13 +56,14 @@ module _ (a : Areas) (d : Desk) (p : ℕ) where
   of c e k u = record { kept = k; past = λ h q. let z = some-inj e in absurd (omega arith); unsound = λ h bad. u bad }
 
   first : (c : Call) → names c ≡ some p → First a d p c
-  unfolding refused-desk first-broken begin-checks fetch-checks next-checks insert-checks delete-checks commit-checks abort-checks mark-checks return-checks write-out-checks
+  unfolding refused-desk first-broken begin-checks fetch-checks next-checks previous-checks insert-checks delete-checks commit-checks abort-checks mark-checks return-checks write-out-checks
   first format e = none-some e
   first (load ks vs) e = none-some e
   first restart e = none-some e
   first begin e = of begin e refl (λ bad. rw bad)
   first (fetch b k) e = of (fetch b k) e refl (λ bad. rw bad)
   first (next b k) e = of (next b k) e refl (λ bad. rw bad)
+  first (previous b k) e = of (previous b k) e refl (λ bad. rw bad)
   first (insert b k v) e = go (eqb k 0) refl e
     where
       go : (z : Bool) → eqb k 0 ≡ z → pick z none (some 0) ≡ some p → First a d p (insert b k v)
@@ -99,7 +101,7 @@ module _ (wp sp wl sl : List ℕ) (d : Desk) (p budget : ℕ) (r : Reply) (c : C
 
     count : length (read-areas l .work .pages) ≡ length wp / 128
     unfolding read-areas
-    count = read-pages-length (length wp / 128) wp (z .0)
+    count = read-work-length (length wp / 128) wp (z .0)
 
     pub by-2 : length wp / 128 ≤ p → r .answer ≡ Refused PageNumber → r .desk ≡ d → Replies c l d budget r l
     by-2 h = broken PageNumber (firsts .past (omega (arith, count, z .1)) (omega (arith, count)))

@@ -22,11 +22,11 @@ use Rattle.def_model.specs.Answers.{first-broken}
 use Rattle.def_model.specs.Update.{Run, going, emit-by, emit}
 use Rattle.def_model.specs.Calls.{run-of, stored-run, last-record, formatted-pages, page-stores, format-stores, format-areas, load-checks, load-by, load-areas, commit-checks, commit-by, commit-batch, write-out-checks, write-out-by, write-out-page}
 use Rattle.def_model.specs.Restart.{restarted, restart-checks, restart-by, restart-areas}
-use Rattle.def_model.specs.OnBytes.{Call, format, load, commit, write-out, restart, Lent, lengths-ok, read-pages, read-log, read-areas, outcome, call-by, call, store-all-bytes, lent-after}
+use Rattle.def_model.specs.OnBytes.{Call, format, load, commit, write-out, restart, Lent, lengths-ok, read-work, read-log, read-areas, outcome, call-by, call, store-all-bytes, lent-after}
 use Rattle.def_model.specs.Loading.{columns, loaded-count, loaded-pages}
 use Rattle.def_model.specs.Update as update
 use Rattle.law_areas.specs.Logs.{read-log-length}
-use Rattle.law_areas.specs.Pages.{read-pages-length}
+use Rattle.law_areas.specs.Working.{read-work-length}
 use Rattle.law_areas.specs.Typed.{formatted-length}
 use Rattle.area_lengths.specs.Lent.{Sized, lengths-numbers}
 use Rattle.area_store.specs.Parts.{slot-stores-length, page-stores-length}
@@ -139,10 +139,10 @@ start-stores-few xs m h i =
     omega arith
 
 -- As many as there are pages and slots.
-lent-few : (l : Lent) → lengths-ok l ≡ true → (16 ≤ length (read-pages (l .work-pages))) × (length (read-pages (l .work-pages)) ≤ 896) × (length (read-log (l .work-log)) ≤ 16384)
+lent-few : (l : Lent) → lengths-ok l ≡ true → (16 ≤ length (read-work (l .work-pages))) × (length (read-work (l .work-pages)) ≤ 896) × (length (read-log (l .work-log)) ≤ 16384)
 lent-few l lens =
     let q = lengths-numbers (l .work-pages) (l .stable-pages) (l .work-log) (l .stable-log) lens in
-    let en = read-pages-length (length (l .work-pages) / page-size) (l .work-pages) (q .0) in
+    let en = read-work-length (length (l .work-pages) / page-size) (l .work-pages) (q .0) in
     let em = read-log-length (length (l .work-log) / slot-size) (l .work-log) (q .4) in
     (omega (arith, en, q .1), omega (arith, en, q .2), omega (arith, em, q .6))
 
@@ -153,7 +153,7 @@ format-few l d = by-lengths format l d few
     few : lengths-ok l ≡ true → length (outcome format (read-areas l) d .stores) ≤ 20000
     few lens =
         let (least, most, slots) = lent-few l lens in
-        let n = length (read-pages (l .work-pages)) in
+        let n = length (read-work (l .work-pages)) in
         start-stores-few (formatted-pages n) (length (read-log (l .work-log))) (omega (arith, formatted-length n (omega arith))) slots
 
 load-stores : (o : Option Refusal) (ks vs : List ℕ) (l : Lent) (d : Desk) → lengths-ok l ≡ true → first-broken (load-checks ks vs (read-areas l)) ≡ o → length (load-by o ks vs (read-areas l) .stores) ≤ 20000
@@ -161,7 +161,7 @@ unfolding load-by read-areas
 load-stores (some r) ks vs l d lens e = omega arith
 load-stores none ks vs l d lens e =
     let (least, most, slots) = lent-few l lens in
-    let n = length (read-pages (l .work-pages)) in
+    let n = length (read-work (l .work-pages)) in
     let k = load-kept ks vs (read-areas l) e in
     let len = columns-length ks vs (k .same) in
     let enough = subst (λ q. suc (loaded-count q) ≤ n) (sym len) (k .enough) in

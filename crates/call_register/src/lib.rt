@@ -13,6 +13,7 @@ use call_slides::delete_in;
 use call_slides::fetch_in;
 use call_slides::insert_in;
 use call_slides::next_in;
+use call_slides::previous_in;
 use call_start::format_within;
 use call_start::load_within;
 use def_layout::Desk;
@@ -116,6 +117,18 @@ pub fn next(wp: &[u8], sp: &[u8], wl: &[u8], sl: &[u8], d: Desk, b: u32, k: u32)
         return refused(why, d);
     }
     next_in(wp, wl, e.pages, e.slots, d, b, k)
+}
+
+// The last record below a key.
+pub fn previous(wp: &[u8], sp: &[u8], wl: &[u8], sl: &[u8], d: Desk, b: u32, k: u32) -> Reply
+    ensures { λ r. ⌜ ((budget : ℕ) → Replies (calls.previous b k) (at-entry wp sp wl sl) d budget r (at-exit wp sp wl sl)) ⌝ }
+{
+    let e = enter(wp, sp, wl, sl, d, 0);
+    if !e.ok {
+        let why = e.why;
+        return refused(why, d);
+    }
+    previous_in(wp, wl, e.pages, e.slots, d, b, k)
 }
 
 // Refusals 1 and 7: key 0 is refused whatever the areas hold.

@@ -11,6 +11,7 @@ use Rattle.def_layout.specs.declared.Row.{Row}
 use Rattle.def_layout.specs.declared.Desk.{Desk}
 use Rattle.def_layout.specs.Desks.{eight-rows}
 use Rattle.def_layout.specs.PageBytes.{read-block}
+use Rattle.def_layout.specs.Pages.{Page}
 use Rattle.def_layout.specs.Sizes.{page-size, slot-size}
 use Rattle.def_layout.specs.Records.{Rec}
 use Rattle.def_model.specs.declared.Refusal.{Refusal}
@@ -25,7 +26,7 @@ use Rattle.def_model.specs.Restart.{restart-checks}
 use Rattle.def_model.specs.OnBytes.{read-pages, read-log}
 use Rattle.law_bytes.specs.Words.{Bytes}
 use Rattle.law_bytes.specs.Pieces.{read-all-length}
-use Rattle.law_bytes.specs.PageAreas.{blocks-of, pages-of}
+use Rattle.law_bytes.specs.PageAreas.{judged, blocks-by, stable-blocks, pages-of}
 use Rattle.law_bytes.specs.LogAreas.{slots-of}
 use Rattle.log_pending.specs.Reading.{Reads, reads-few}
 use Rattle.log_pending.specs.Holding.{Holds}
@@ -36,16 +37,20 @@ use Rattle.log_judge.specs.declared.Said.{Said}
 use Rattle.log_judge.specs.Judging.{Judgement}
 use Rattle.log_judge.specs.Accepted.{Accepted, accepted, accepted-low}
 use Rattle.law_areas.specs.Logs.{HoldsLog, AllFit}
-use Rattle.record_pages.specs.Pages.{Pages}
+use Rattle.record_pages.specs.Pages.{Pages, bare-pages}
 use Rattle.sound_parts.specs.Laid.{Laid, laid-pages}
 use Rattle.sound_register.specs.Logs.{log-shown, area-fits, area-holds-log}
 use Rattle.sound_register.specs.Parts.{pages-read}
-use Rattle.sound_register.specs.Standing.{pages-in, log-in}
+use Rattle.sound_register.specs.Standing.{log-in}
 use Rattle.call_restart.specs.declared.Verdict.{Verdict}
 use Rattle.call_restart.specs.Checks.{layout-first, log-first}
 
+-- The pages that stable areas show.
+abbrev pub stable-in : List ℕ → List Page
+stable-in sp = areas.pages-of (read-pages sp)
+
 abbrev pub image : List ℕ → List ℕ → Side
-image sp sl = record { pages = read-pages sp; log = read-log sl }
+image sp sl = record { pages = read-pages sp; lefts = []; log = read-log sl }
 
 -- Under any working areas.
 abbrev pub over : Side → List ℕ → List ℕ → Areas
@@ -58,7 +63,7 @@ Refuses sp sl r = (w : Side) → first-broken (restart-checks (over w sp sl)) �
 pub record Image (n m : ℕ) (sp sl : List ℕ) (rs : List Row) (count : ℕ) (ms : List Bool) : Type 0 where
   pub layouts : layouts-ok (image sp sl) ≡ true
   pub log : log-ok (image sp sl) ≡ true
-  pub pages : Pages n sp (pages-in sp)
+  pub pages : Pages n sp (stable-in sp) []
   pub records : HoldsLog sl (log-in sl)
   pub size : length sl ≡ slot-size * m
   pub fits : AllFit 1 (log-in sl)
@@ -77,14 +82,17 @@ pub record Judges (n m : ℕ) (sp sl : List ℕ) (v : Verdict) : Type 0 where
 module _ (n m : ℕ) (sp sl : List ℕ) (of-pages : length sp ≡ page-size * n) (of-log : length sl ≡ slot-size * m) where
   -- ---- the tests in the definitions' words
 
-  layouts-are : layouts-ok (image sp sl) ≡ blocks-ok n 0 (blocks-of n sp)
-  unfolding layouts-ok
+  layouts-are : layouts-ok (image sp sl) ≡ blocks-ok n 0 (blocks-by false n sp)
+  unfolding layouts-ok judged
   layouts-are = rw (pages-read n sp of-pages, read-all-length page-size read-block n sp)
 
   log-is : log-ok (image sp sl)
-      ≡ slots-ok n 1 (slots-of m sl) && (chain-ok 1 (records-of (slots-of m sl)) [] && numbers-ok (length (records-of (slots-of m sl))) (areas.pages-of (blocks-of n sp)))
-  unfolding log-ok
+      ≡ slots-ok n 1 (slots-of m sl) && (chain-ok 1 (records-of (slots-of m sl)) [] && numbers-ok (length (records-of (slots-of m sl))) (areas.pages-of (blocks-by false n sp)))
+  unfolding log-ok judged
   log-is = rw (pages-read n sp of-pages, log-shown m sl of-log, read-all-length page-size read-block n sp)
+
+  laid-stable : blocks-ok n 0 (blocks-by false n sp) ≡ true → Laid n sp
+  laid-stable laid = laid-pages n sp (ap (blocks-ok n 0) (sym (stable-blocks n sp)) ∙ laid) of-pages
 
   -- ---- refused
 
@@ -92,10 +100,10 @@ module _ (n m : ℕ) (sp sl : List ℕ) (of-pages : length sp ≡ page-size * n)
     refused-by : (r : Refusal) → v .why ≡ r → Refuses sp sl r → Judges n m sp sl v
     refused-by r e h = record { refuses = λ _ w. h w ∙ ap some (sym e); known = λ z. clash (sym z ∙ off) }
 
-    pub pages-broken : {t : Bool} → v .why ≡ Layout → t ≡ blocks-ok n 0 (blocks-of n sp) → t ≡ false → Judges n m sp sl v
+    pub pages-broken : {t : Bool} → v .why ≡ Layout → t ≡ blocks-ok n 0 (blocks-by false n sp) → t ≡ false → Judges n m sp sl v
     pages-broken y et e = refused-by Layout y (λ w. layout-first (over w sp sl) (layouts-are ∙ sym et ∙ e))
 
-    module _ (y : v .why ≡ Log) (laid : blocks-ok n 0 (blocks-of n sp) ≡ true) (j : Said) (judged : Judgement n (slots-of m sl) j) where
+    module _ (y : v .why ≡ Log) (laid : blocks-ok n 0 (blocks-by false n sp) ≡ true) (j : Said) (judged : Judgement n (slots-of m sl) j) where
       pub log-broken : j .ok ≡ false → Judges n m sp sl v
       log-broken e =
           refused-by Log y
@@ -107,11 +115,11 @@ module _ (n m : ℕ) (sp sl : List ℕ) (of-pages : length sp ≡ page-size * n)
           both false b c e = refl
 
       pub numbers-high : {t : Bool} → j .ok ≡ true → t ≡ numbers-ok (j .logged) (pages-of n sp) → t ≡ false → Judges n m sp sl v
-      unfolding desk-of
+      unfolding desk-of judged
       numbers-high {t} right et e =
           let k : j .logged ≡ length (records-of (slots-of m sl)) = ap (λ (x : Desk). x .logged) (judged .desk right 0) in
-          let u : numbers-ok (length (records-of (slots-of m sl))) (areas.pages-of (blocks-of n sp)) ≡ false =
-          ap₂ numbers-ok (sym k) (laid-pages n sp laid of-pages .shown) ∙ sym et ∙ e in
+          let u : numbers-ok (length (records-of (slots-of m sl))) (areas.pages-of (blocks-by false n sp)) ≡ false =
+          ap₂ numbers-ok (sym k) (laid-stable laid .shown) ∙ sym et ∙ e in
           refused-by Log y
           (λ w. log-first (over w sp sl) (layouts-are ∙ laid)
           (log-is ∙ third (slots-ok n 1 (slots-of m sl)) (chain-ok 1 (records-of (slots-of m sl)) []) _ u))
@@ -123,9 +131,9 @@ module _ (n m : ℕ) (sp sl : List ℕ) (of-pages : length sp ≡ page-size * n)
 
   -- ---- known
 
-  module _ (laid : blocks-ok n 0 (blocks-of n sp) ≡ true) (j : Said) (judged : Judgement n (slots-of m sl) j) (right : j .ok ≡ true) where
+  module _ (laid : blocks-ok n 0 (blocks-by false n sp) ≡ true) (j : Said) (judged : Judgement n (slots-of m sl) j) (right : j .ok ≡ true) where
     area : Laid n sp
-    area = laid-pages n sp laid of-pages
+    area = laid-stable laid
 
     both : (slots-ok n 1 (slots-of m sl) ≡ true) × (chain-ok 1 (records-of (slots-of m sl)) [] ≡ true)
     both = and-true (slots-ok n 1 (slots-of m sl)) (chain-ok 1 (records-of (slots-of m sl)) []) (sym (judged .ok) ∙ right)
@@ -133,7 +141,8 @@ module _ (n m : ℕ) (sp sl : List ℕ) (of-pages : length sp ≡ page-size * n)
     taken : Accepted m sl (records-of (slots-of m sl))
     taken = accepted n m sl (both .0) (both .1)
 
-    pages-are : pages-of n sp ≡ pages-in sp
+    pages-are : pages-of n sp ≡ stable-in sp
+    unfolding judged
     pages-are = sym (ap areas.pages-of (pages-read n sp of-pages) ∙ area .shown)
 
     records-are : records-of (slots-of m sl) ≡ log-in sl
@@ -170,15 +179,16 @@ module _ (n m : ℕ) (sp sl : List ℕ) (of-pages : length sp ≡ page-size * n)
         }
 
     pub image-known : {t : Bool} → Bytes sl → m ≤ 16384 → t ≡ numbers-ok (j .logged) (pages-of n sp) → t ≡ true → Image n m sp sl (j .rows) (j .logged) (j .marked)
+    unfolding judged
     image-known w few et e =
         let k = subst Records records-are (said w) in
-        let in-pages : Pages n sp (pages-of n sp) = record { bytes = area .bytes; fits = area .fits; size = area .size } in
+        let in-pages : Pages n sp (pages-of n sp) [] = bare-pages (pages-of n sp) (area .bytes) (area .fits) (area .size) in
         record {
           layouts = layouts-are ∙ laid;
           log =
               log-is
               ∙ and-both (both .0) (and-both (both .1) (ap₂ numbers-ok (sym log-size) (area .shown) ∙ sym et ∙ e));
-          pages = subst (Pages n sp) pages-are in-pages;
+          pages = subst (λ (xs : List Page). Pages n sp xs []) pages-are in-pages;
           records = k .records;
           size = of-log;
           fits = k .fits;

@@ -3,7 +3,7 @@ use Prim.Native.Nat.{ℕ}
 use mathlib.Core.Path.{_≡_, refl, sym, ap, _∙_, subst, subst₂}
 use mathlib.Core.Bool.{Bool, true, false, _&&_}
 use mathlib.Core.Option.{some}
-use mathlib.Core.List.{List}
+use mathlib.Core.List.{List, []}
 use lib.ListN.{length}
 use Rattle.def_base.specs.Tests.{clash}
 use Rattle.def_layout.specs.declared.Row.{Row}
@@ -22,21 +22,21 @@ use Rattle.record_pages.specs.Pages.{Pages, pages-shown}
 use Rattle.record_redo.specs.declared.Redone.{Redone}
 use Rattle.record_redo.specs.Logs.{Logged}
 use Rattle.record_redo.specs.Outcomes.{Answers, whole}
-use Rattle.sound_register.specs.Standing.{pages-in, log-in}
+use Rattle.sound_register.specs.Standing.{log-in}
 use Rattle.call_restart.specs.declared.Verdict.{Verdict}
 use Rattle.call_restart.specs.Checks.{redo-first, rules-first}
-use Rattle.call_restart.specs.Image.{Refuses, over, Image, Judges}
+use Rattle.call_restart.specs.Image.{Refuses, stable-in, over, Image, Judges}
 
 -- The pages of an image after its log is redone.
 abbrev pub redone-in : List ℕ → List ℕ → List Page
-redone-in sp sl = replay 1 (log-in sl) (pages-in sp)
+redone-in sp sl = replay 1 (log-in sl) (stable-in sp)
 
 pub record Ready (n : ℕ) (sp sl after : List ℕ) (applied : ℕ) : Type 0 where
-  pub fits : redo-fits 1 (log-in sl) (pages-in sp) ≡ true
+  pub fits : redo-fits 1 (log-in sl) (stable-in sp) ≡ true
   pub tree : tree-ok (redone-in sp sl) ≡ true
   pub pending : pending-ok (redone-in sp sl) (open-batches (log-in sl)) ≡ true
-  pub pages : Pages n after (redone-in sp sl)
-  pub count : applied ≡ redo-count 1 (log-in sl) (pages-in sp)
+  pub pages : Pages n after (redone-in sp sl) []
+  pub count : applied ≡ redo-count 1 (log-in sl) (stable-in sp)
 
 pub record Readies (n m : ℕ) (sp sl after : List ℕ) (v : Verdict) : Type 0 where
   pub refuses : v .ok ≡ false → Refuses sp sl (v .why)
@@ -45,11 +45,11 @@ pub record Readies (n m : ℕ) (sp sl after : List ℕ) (v : Verdict) : Type 0 w
 
 -- What the redo of a log says, of whatever pages and records the areas show.
 abbrev RedoSays : ℕ → ℕ → List ℕ → List ℕ → List ℕ → ℕ → Redone → Type 0
-RedoSays n m sp sl after logged x = (xs : List Page) (l : List Rec) → Pages n sp xs → Logged m sl l → length l ≡ logged → Answers n after x (whole 1 l xs)
+RedoSays n m sp sl after logged x = (xs : List Page) (l : List Rec) → Pages n sp xs [] → Logged m sl l → length l ≡ logged → Answers n after x (whole 1 l xs)
 
 module _ {n m : ℕ} {sp sl after : List ℕ} {rs : List Row} {logged : ℕ} {ms : List Bool} (x : Redone) (says : RedoSays n m sp sl after logged x) (k : Image n m sp sl rs logged ms) (r : Verdict) where
-  answers : Answers n after x (whole 1 (log-in sl) (pages-in sp))
-  answers = says (pages-in sp) (log-in sl) (k .pages) (record { slots = k .reads; fits = k .fits }) (sym (k .logged))
+  answers : Answers n after x (whole 1 (log-in sl) (stable-in sp))
+  answers = says (stable-in sp) (log-in sl) (k .pages) (record { slots = k .reads; fits = k .fits }) (sym (k .logged))
 
   refused-by : (why : Refusal) → r .ok ≡ false → r .why ≡ why → Refuses sp sl why → Readies n m sp sl after r
   refused-by why off e h = record { refuses = λ _ w. h w ∙ ap some (sym e); known = λ z. clash (sym z ∙ off); ready = λ z. clash (sym z ∙ off) }

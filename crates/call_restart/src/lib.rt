@@ -21,6 +21,7 @@ use sound_parts::layouts_ok;
 use sound_parts::numbers_ok;
 use sound_pending::pending_ok;
 use tree_check::tree_ok;
+use tree_links::relink;
 use tree_write::Run;
 ghost use mathlib.Core.Path.{_≡_};
 ghost use mathlib.Core.Bool.{true, false};
@@ -68,7 +69,7 @@ fn judged(sp: &[u8], sl: &[u8], n: usize, m: usize) -> Verdict
     requires { ⌜ HasAreas n m (now sp) (now sl) ⌝ }
     ensures { λ v. ⌜ Judges n m (now (sp .entry)) (now (sl .entry)) v ⌝ }
 {
-    if !layouts_ok(sp, n) {
+    if !layouts_ok(sp, n, false) {
         return image_bad(Refusal::Layout);
     }
     let j = judge_log(sl, m, n);
@@ -172,6 +173,7 @@ fn recovered(
     if u.stop == 18 {
         return zeroed(wp, wl, Refusal::PagesShort);
     }
+    relink(wp, n);
     store_slots(sl, wl, v.logged as usize, u.logged as usize, budget);
     let ended = used_rows(rows);
     Reply {

@@ -25,10 +25,10 @@ use Rattle.theory_update.specs.Run.Way.{emit-goes}
 use Rattle.tree_write.specs.declared.Run as run
 use Rattle.tree_write.specs.Shows.{Shows}
 use Rattle.call_reply.specs.declared.Reply.{Reply}
-use Rattle.call_reply.specs.Replies.{Replies, left-run}
+use Rattle.call_reply.specs.Replies.{Replies, leaves-same, left-run}
 use Rattle.sound_register.specs.declared.Standing.{Standing}
 use Rattle.call_slides.specs.Checked.{begin-goes}
-use Rattle.call_slides.specs.Given.{Given, areas, Answers, refuse, given-chain, given-slots, open-count}
+use Rattle.call_slides.specs.Given.{Given, areas, Answers, refuse, given-chain, given-slots, quiet-links, open-count}
 
 module _ {n m : ℕ} {wp sp wl sl : List ℕ} {d : Desk} {st : Standing} (g : Given n m wp sp wl sl d st) where
   -- The formulas on the desk's numbers.
@@ -70,6 +70,6 @@ module _ {n m : ℕ} {wp sp wl sl : List ℕ} {d : Desk} {st : Standing} (g : Gi
         let z : emit (batch-row records.begin b 0) s .stop ≡ 0 = ap (λ t. t .stop) w in
         let un : u .logged ≡ b = sym (sh .logged) ∙ ap (λ t. length (t .log)) w ∙ length-append (s .log) _ ∙ omega (arith, nb) in
         left-run begin wp sp wl sl d (g .lengths) (Number b) budget (emit (batch-row records.begin b 0) s) r (given-slots g)
-        (begin-goes (areas g) d (g .is-sound) few (begin-slots ∙ e) ∙ rw nb) sh a
+        (begin-goes (areas g) d (g .is-sound) few (begin-slots ∙ e) ∙ rw nb) (leaves-same sh (quiet-links g records.begin b 0 refl)) a
         (k ∙ ap (λ (i : ℕ). record { rows = set (d .rows) (place-of 0 (d .rows)) (new-row b); logged = i; stored = d .stored }) un
         ∙ sym (begin-desk s d (given-chain g) (g .known .desk) b 0 (d .stored) h nb z))

@@ -7,7 +7,7 @@ use mathlib.Core.Bool.{Bool, true, false, not}
 use mathlib.Core.Option.{Option, none, some}
 use mathlib.Core.List.{List, [], _∷_}
 use lib.ListN.{set}
-use Rattle.def_base.specs.Tests.{clash, neq-false}
+use Rattle.def_base.specs.Tests.{clash, neq-false, and-both, le-true}
 use Rattle.def_layout.specs.declared.Desk.{Desk}
 use Rattle.def_layout.specs.Desks.{row-at}
 use Rattle.def_layout.specs.Entries.{top}
@@ -15,7 +15,8 @@ use Rattle.def_layout.specs.Records as records
 use Rattle.def_model.specs.declared.Refusal.{Refusal}
 use Rattle.def_model.specs.declared.Refusal.the-variants.{NoBatch, Held, Present, Absent, SlotsShort, PagesShort}
 use Rattle.def_model.specs.declared.Answer.the-variants.{Done, Refused}
-use Rattle.def_model.specs.Answers.{Check, check, first-broken}
+use Rattle.def_model.specs.Answers.{Check, check, first-broken, passed}
+use Rattle.def_recovery.specs.Events.{of-32-bits}
 use Rattle.def_model.specs.Areas.{Areas}
 use Rattle.def_model.specs.Fit.{found}
 use Rattle.def_model.specs.Lookup.{fetched}
@@ -32,7 +33,7 @@ use Rattle.theory_desk.specs.Runs.{insert-desk, delete-desk}
 use Rattle.tree_write.specs.declared.Run as run
 use Rattle.tree_write.specs.Shows.{Shows}
 use Rattle.call_reply.specs.declared.Reply.{Reply}
-use Rattle.call_reply.specs.Replies.{Replies, left-run}
+use Rattle.call_reply.specs.Replies.{Replies, Links, left-linked}
 use Rattle.theory_sound.specs.Kept.{Lendable}
 use Rattle.theory_sound.specs.SoundKept.{insert-runs, delete-runs}
 use Rattle.theory_sound.specs.OfBytes.{lendable}
@@ -148,28 +149,30 @@ module _ {n m : ℕ} {wp sp wl sl : List ℕ} {d : Desk} {st : Standing} (g : Gi
 
   -- ---- where no check refuses: one record more, and the row and the count anew
 
-  module _ {wp′ wl′ : List ℕ} (wrong : Bool) (i budget : ℕ) (t : run.Run) (r : Reply) (kt : k ≤ top) (a : r .answer ≡ Done)
+  module _ {wp₁ wp′ wl′ : List ℕ} (wrong : Bool) (i budget : ℕ) (t : run.Run) (r : Reply) (kt : k ≤ top) (bt : b ≤ top) (links : Links n wp₁ wp′) (a : r .answer ≡ Done)
       (de : r .desk ≡ record { rows = set (d .rows) i (record { batch = b; last = t .logged; undo = t .logged; pending = row-at (d .rows) i .pending + 1 }); logged = t .logged; stored = d .stored }) where
-    pub insert-0 : (v : ℕ) → k ≢ 0 → wrong ≡ found value → Free d (lent wp sp wl sl) b k wrong Present i → Shows n m wp′ wl′ t (put-record records.insert b (row-at (d .rows) i .last) k v (run-of (areas g)))
+    pub insert-0 : (v : ℕ) → v ≤ top → k ≢ 0 → wrong ≡ found value → Free d (lent wp sp wl sl) b k wrong Present i → Shows n m wp₁ wl′ t (put-record records.insert b (row-at (d .rows) i .last) k v (run-of (areas g)))
         → Replies (insert b k v) (lent wp sp wl sl) d budget r (lent wp′ sp wl′ sl)
-    unfolding outcome run-of read-areas
-    insert-0 v nz w f sh =
+    unfolding outcome run-of read-areas of-32-bits passed
+    insert-0 v vt nz w f sh =
         let l = last-is g b i (f .place) (f .low) in
         let z = open-zero g b i (f .place) (f .low) in
         let x = insert-runs (areas g) d (can .few) (can .equal) (can .small) (g .is-sound) b (row-at (d .rows) i .last) k v kt (found-none value (sym w ∙ f .right)) (f .slots) (f .pages) in
-        left-run (insert b k v) wp sp wl sl d (g .lengths) Done budget (put-record records.insert b (row-at (d .rows) i .last) k v (run-of (areas g))) r (given-slots g)
-        (insert-goes (areas g) d b k v (as-insert wrong none nz w (f .none-broken)) ∙ rw (← l)) sh a
+        left-linked (insert b k v) wp sp wl sl d (g .lengths) Done budget (put-record records.insert b (row-at (d .rows) i .last) k v (run-of (areas g))) r
+        (and-both (le-true b top bt) (and-both (le-true k top kt) (le-true v top vt))) refl (given-slots g)
+        (insert-goes (areas g) d b k v (as-insert wrong none nz w (f .none-broken)) ∙ rw (← l)) sh links a
         (de ∙ sym (insert-desk (run-of (areas g)) d (given-chain g) (g .known .desk) b _ k v i _ (t .logged) (d .stored) (z .0) (z .1) (f .low) refl (x .ready .goes) (sym (sh .logged))))
 
     pub delete-0 : (v : ℕ) → v ≡ value-or value → wrong ≡ not (found value) → Free d (lent wp sp wl sl) b k wrong Absent i
-        → Shows n m wp′ wl′ t (remove-record records.delete b (row-at (d .rows) i .last) k v (run-of (areas g)))
+        → Shows n m wp₁ wl′ t (remove-record records.delete b (row-at (d .rows) i .last) k v (run-of (areas g)))
         → Replies (delete b k) (lent wp sp wl sl) d budget r (lent wp′ sp wl′ sl)
-    unfolding outcome run-of read-areas
+    unfolding outcome run-of read-areas of-32-bits passed
     delete-0 v e w f sh =
         let l = last-is g b i (f .place) (f .low) in
         let z = open-zero g b i (f .place) (f .low) in
         let there : value ≡ some v = found-some value (sym w ∙ f .right) ∙ ap some (sym e) in
         let x = delete-runs (areas g) d (can .few) (can .equal) (can .small) (g .is-sound) b (row-at (d .rows) i .last) k v kt there (f .slots) (f .pages) in
-        left-run (delete b k) wp sp wl sl d (g .lengths) Done budget (remove-record records.delete b (row-at (d .rows) i .last) k v (run-of (areas g))) r (given-slots g)
-        (delete-goes (areas g) d b k (as-delete wrong none w (f .none-broken)) ∙ rw (← l, ← e)) sh a
+        left-linked (delete b k) wp sp wl sl d (g .lengths) Done budget (remove-record records.delete b (row-at (d .rows) i .last) k v (run-of (areas g))) r
+        (and-both (le-true b top bt) (le-true k top kt)) refl (given-slots g)
+        (delete-goes (areas g) d b k (as-delete wrong none w (f .none-broken)) ∙ rw (← l, ← e)) sh links a
         (de ∙ sym (delete-desk (run-of (areas g)) d (given-chain g) (g .known .desk) b _ k v i _ (t .logged) (d .stored) (z .0) (z .1) (f .low) refl (x .ready .goes) (sym (sh .logged))))

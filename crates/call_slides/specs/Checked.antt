@@ -21,11 +21,11 @@ use Rattle.def_model.specs.Lookup.{fetched, next-above}
 use Rattle.def_model.specs.Areas.{Areas, store-page}
 use Rattle.def_model.specs.Answers.{Check, first-broken}
 use Rattle.def_model.specs.Batches.{find-batch, unmarked, is-record-of}
-use Rattle.def_model.specs.Pending.{held, held-between}
+use Rattle.def_model.specs.Pending.{held, held-between, held-from}
 use Rattle.def_model.specs.Update.{emit, put-record, remove-record}
 use Rattle.def_model.specs.Sound.{sound, work-pages, work-log, work-slots, work-open, begin-has-slots}
-use Rattle.def_model.specs.Calls.{run-of, kept-run, stored-run, unchanged, is-none, value-or, last-record, next-limit, next-answer, abort-of, begin-checks, begin-by, begin-batch, fetch-checks, fetch-by, fetch-slide, next-checks, next-slide-by, next-slide, insert-checks, insert-by, insert-slide, delete-checks, delete-by, delete-slide, commit-checks, commit-by, commit-batch, abort-checks, abort-by, abort-batch, write-out-checks, write-out-by, write-out-page, mark-checks, latest-by, mark-batch, return-checks, return-by, return-batch, return-of}
-use Rattle.def_model.specs.OnBytes.{Call, format, load, restart, begin, fetch, next, insert, delete, commit, abort, write-out, outcome, take-mark, return-to}
+use Rattle.def_model.specs.Calls.{run-of, kept-run, stored-run, unchanged, is-none, value-or, last-record, next-limit, next-answer, before, previous-limit, previous-slide, abort-of, begin-checks, begin-by, begin-batch, fetch-checks, fetch-by, fetch-slide, next-checks, previous-checks, next-slide-by, previous-slide-by, next-slide, insert-checks, insert-by, insert-slide, delete-checks, delete-by, delete-slide, commit-checks, commit-by, commit-batch, abort-checks, abort-by, abort-batch, write-out-checks, write-out-by, write-out-page, mark-checks, latest-by, mark-batch, return-checks, return-by, return-batch, return-of}
+use Rattle.def_model.specs.OnBytes.{Call, format, load, restart, begin, fetch, next, previous, insert, delete, commit, abort, write-out, outcome, take-mark, return-to}
 
 -- The checks of a call on sound areas. (Format has none; those of a loading and a restart come before any.)
 abbrev pub checks : Call → Areas → Desk → List Check
@@ -35,6 +35,7 @@ checks restart a d = []
 checks begin a d = begin-checks a d
 checks (fetch b k) a d = fetch-checks b k a d
 checks (next b k) a d = next-checks b k a d
+checks (previous b k) a d = previous-checks b k a d
 checks (insert b k v) a d = insert-checks b k a d
 checks (delete b k) a d = delete-checks b k a d
 checks (commit b) a d = commit-checks b a d
@@ -45,13 +46,14 @@ checks (return-to b m) a d = return-checks b m a d
 
 module _ (a : Areas) (d : Desk) where
   pub refused-first : (c : Call) (r : Refusal) → first-broken (checks c a d) ≡ some r → outcome c a d ≡ unchanged (Refused r) a d
-  unfolding outcome first-broken begin-batch begin-by fetch-slide fetch-by next-slide next-slide-by insert-slide insert-by delete-slide delete-by commit-batch commit-by abort-batch abort-by mark-batch latest-by return-batch return-by write-out-page write-out-by
+  unfolding outcome first-broken begin-batch begin-by fetch-slide fetch-by next-slide next-slide-by previous-slide previous-slide-by insert-slide insert-by delete-slide delete-by commit-batch commit-by abort-batch abort-by mark-batch latest-by return-batch return-by write-out-page write-out-by
   refused-first format r e = none-some e
   refused-first (load ks vs) r e = none-some e
   refused-first restart r e = none-some e
   refused-first begin r e = ap (λ (o : Option Refusal). begin-by o a d) e
   refused-first (fetch b k) r e = ap (λ (o : Option Refusal). fetch-by o k a d) e
   refused-first (next b k) r e = ap (λ (o : Option Refusal). next-slide-by o k a d) e
+  refused-first (previous b k) r e = ap (λ (o : Option Refusal). previous-slide-by o k a d) e
   refused-first (insert b k v) r e = ap (λ (o : Option Refusal). insert-by o b k v a d) e
   refused-first (delete b k) r e = ap (λ (o : Option Refusal). delete-by o b k a d) e
   refused-first (commit b) r e = ap (λ (o : Option Refusal). commit-by o b a d) e
@@ -88,6 +90,10 @@ module _ (a : Areas) (d : Desk) where
           → next-slide b k a d ≡ unchanged (Pair (x .key) (x .val)) a d
       unfolding next-slide next-slide-by next-checks first-broken is-none next-answer
       next-goes x f e = rw (ok, is-open, f, e) (rw f)
+
+      pub previous-goes : (x : Entry) → before k a ≡ some x → held-from b (previous-limit (some x)) k (work-open a) ≡ false → previous-slide b k a d ≡ unchanged (Pair (x .key) (x .val)) a d
+      unfolding previous-slide previous-slide-by previous-checks first-broken is-none next-answer
+      previous-goes x f e = rw (ok, is-open, f, e) (rw f)
 
     module _ (b : ℕ) (is-open : is-none (find-batch b (work-open a)) ≡ false) where
       pub mark-goes : mark-batch b a d ≡ unchanged (Number (last-record b a)) a d

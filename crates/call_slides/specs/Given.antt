@@ -5,7 +5,7 @@ use native.Mathlib.Omega.{arith}
 use mathlib.Core.Logic.{_≢_, _⊎_, inl, inr, ⊎-elim}
 use mathlib.Core.Bool.{Bool, true, false, not}
 use mathlib.Core.Option.{Option, none, some}
-use mathlib.Core.List.{List, [], _∷_}
+use mathlib.Core.List.{List, [], _∷_, map}
 use lib.ListN.{length, getD}
 use lib.Dec.{eqb}
 use Rattle.def_base.specs.Tests.{pick, Case, yes!, no!, case, clash, and-true, true-eq, eq-true}
@@ -13,7 +13,7 @@ use Rattle.def_layout.specs.declared.Row.{Row}
 use Rattle.def_layout.specs.declared.Desk.{Desk}
 use Rattle.def_layout.specs.Desks.{row-at}
 use Rattle.def_layout.specs.Sizes.{page-size}
-use Rattle.def_layout.specs.Records.{Rec}
+use Rattle.def_layout.specs.Records.{Rec, Kind, batch-row}
 use Rattle.def_model.specs.declared.Refusal.{Refusal}
 use Rattle.def_model.specs.declared.Answer.{Answer}
 use Rattle.def_model.specs.declared.Answer.the-variants.{Refused}
@@ -21,19 +21,25 @@ use Rattle.def_model.specs.Log.{records-of}
 use Rattle.def_model.specs.Answers.{first-broken}
 use Rattle.def_model.specs.Batches.{Batch, find-batch, unmarked, chain-ok, row-of}
 use Rattle.def_model.specs.Areas.{Areas}
+use Rattle.def_model.specs.Change.{changes, shape}
+use Rattle.def_model.specs.Update.{emit}
+use Rattle.def_model.specs.Links.{of-leaves, relinked}
 use Rattle.def_model.specs.Sound.{sound, layouts-ok, log-ok, work-pages, work-log, work-slots, work-open}
-use Rattle.def_model.specs.Calls.{is-none, last-of, last-record, unchanged}
-use Rattle.def_model.specs.OnBytes.{Call, lengths-ok, read-log, read-areas, outcome}
+use Rattle.def_model.specs.Calls.{run-of, is-none, last-of, last-record, unchanged}
+use Rattle.def_model.specs.OnBytes.{Call, lengths-ok, read-lefts, read-log, read-areas, outcome}
 use Rattle.law_bytes.specs.Tables.{getD-tab}
 use Rattle.law_areas.specs.Logs.{read-log-length}
-use Rattle.law_areas.specs.Pages.{read-pages-length}
+use Rattle.law_areas.specs.Working.{paired-lefts, work-length, read-work-length, read-lefts-length}
+use Rattle.law_areas.specs.WorkPages.{paired-leaves}
+use Rattle.theory_tree.specs.Shape.LeftLinks.{of-leaves-length, relinked-same}
+use Rattle.theory_tree.specs.Test.Test.{test-sound}
+use Rattle.theory_calls.specs.Checks.{sound-parts}
 use Rattle.area_lengths.specs.Lent.{lent}
 use Rattle.law_bytes.specs.DeskRows.{place-of}
 use Rattle.theory_desk.specs.Opened.{batch-at, log-chain, zero-not-open}
 use Rattle.theory_desk.specs.Said.{said-row, said-used, said-none, said-found}
 use Rattle.log_chain.specs.Shown.{marks-of}
-use Rattle.law_bytes.specs.PageAreas.{pages-bytes-length}
-use Rattle.record_pages.specs.Pages.{Pages}
+use Rattle.tree_write.specs.Shows.{quiet-emit}
 use Rattle.call_reply.specs.declared.Reply.{Reply}
 use Rattle.call_reply.specs.Replies.{Replies, left-alone}
 use Rattle.sound_register.specs.declared.Standing.{Standing}
@@ -97,12 +103,31 @@ module _ {n m : ℕ} {wp sp wl sl : List ℕ} {d : Desk} {r : Standing} (g : Giv
   unfolding read-areas
   given-slots = read-log-length m wl (g .known .shows sp .size)
 
+  pub given-length : length wp ≡ page-size * n
+  given-length = let h = g .known .pages in ap length (h .bytes) ∙ work-length (pages-in wp) (read-lefts wp) ∙ ap (λ (k : ℕ). page-size * k) (h .size)
+
   pub given-pages : length (areas .work .pages) ≡ n
   unfolding read-areas
-  given-pages = read-pages-length n wp (given-length (g .known .pages))
-    where
-      given-length : Pages n wp (work-pages areas) → length wp ≡ page-size * n
-      given-length h = ap length (h .bytes) ∙ pages-bytes-length _ ∙ ap (λ (k : ℕ). page-size * k) (h .size)
+  given-pages = read-work-length n wp given-length
+
+  -- Its left links are as they are worked out: they agree with the right ones.
+  pub given-links : relinked (run-of areas .pages) (run-of areas .lefts) ≡ run-of areas .lefts
+  unfolding read-areas run-of
+  given-links =
+      let p = g .known .pages in
+      let xs = work-pages areas in
+      let ls = read-lefts wp in
+      let e : length ls ≡ length xs = read-lefts-length n wp given-length ∙ sym (p .size) in
+      let same : of-leaves xs ls ≡ ls = sym (paired-lefts xs (of-leaves xs ls) (of-leaves-length xs ls)) ∙ ap (map (λ y. y .left)) (paired-leaves xs ls (p .links)) ∙ paired-lefts xs ls e in
+      let s = sound-parts areas d (g .is-sound) in
+      relinked-same xs (test-sound xs (s .tree)) ls same (s .lefts)
+
+  -- A record that changes no page leaves them.
+  pub quiet-links : (kind : Kind) (b previous : ℕ) → shape kind ≡ changes false false false false
+      → relinked (emit (batch-row kind b previous) (run-of areas) .pages) (emit (batch-row kind b previous) (run-of areas) .lefts) ≡ emit (batch-row kind b previous) (run-of areas) .lefts
+  quiet-links kind b previous q =
+      let (x, y) = quiet-emit kind b previous (run-of areas) q in
+      (λ i. relinked (x i) (y i)) ∙ given-links ∙ sym y
 
   -- ---- a batch by its row
 

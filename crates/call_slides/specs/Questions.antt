@@ -1,5 +1,5 @@
--- Fetch and next, reply by reply.
-use mathlib.Core.Path.{_≡_, ap, sym, _∙_}
+-- Fetch, next and previous, reply by reply.
+use mathlib.Core.Path.{_≡_, ap, sym, _∙_, subst}
 use Prim.Native.Nat.{ℕ, _<_, _≤_}
 use mathlib.Core.Bool.{true, false}
 use mathlib.Core.Option.{Option, none, some}
@@ -11,19 +11,21 @@ use Rattle.def_model.specs.declared.Refusal.the-variants.{NoBatch, Held, Absent
 use Rattle.def_model.specs.declared.Answer.the-variants.{Number, Pair, Refused}
 use Rattle.def_model.specs.Answers.{first-broken}
 use Rattle.def_model.specs.Fit.{found}
-use Rattle.def_model.specs.Lookup.{fetched, next-above}
+use Rattle.def_model.specs.Lookup.{fetched, next-above, previous-below}
 use Rattle.def_model.specs.Batches.{find-batch}
-use Rattle.def_model.specs.Pending.{held, held-between}
+use Rattle.def_model.specs.Pending.{held, held-between, held-from}
 use Rattle.def_model.specs.Sound.{work-pages, work-log, work-open}
-use Rattle.def_model.specs.Calls.{is-none, next-limit, fetch-checks, next-checks}
-use Rattle.def_model.specs.OnBytes.{fetch, next, outcome, read-areas}
+use Rattle.def_model.specs.Calls.{is-none, next-limit, before, previous-limit, fetch-checks, next-checks, previous-checks}
+use Rattle.def_model.specs.OnBytes.{fetch, next, previous, outcome, read-areas}
 use Rattle.law_bytes.specs.PageAreas as shown
+use Rattle.law_areas.specs.Pages.{AllPagesFit}
+use Rattle.sound_register.specs.Parts.{lefts-read}
 use Rattle.record_pages.specs.Pages.{pages-shown}
 use Rattle.sound_pending.specs.Rows as pending
 use Rattle.sound_register.specs.declared.Standing.{Standing}
 use Rattle.sound_register.specs.Standing.{known-rows}
-use Rattle.call_slides.specs.Checked.{fetch-goes, next-goes}
-use Rattle.call_slides.specs.Given.{Given, areas, answer, refuse, Answers, open-place, open-none, open-some}
+use Rattle.call_slides.specs.Checked.{fetch-goes, next-goes, previous-goes}
+use Rattle.call_slides.specs.Given.{Given, areas, given-length, answer, refuse, Answers, open-place, open-none, open-some}
 
 module _ {n m : ℕ} {wp sp wl sl : List ℕ} {d : Desk} {st : Standing} (g : Given n m wp sp wl sl d st) where
   -- What the bytes show is what the definitions read.
@@ -36,6 +38,12 @@ module _ {n m : ℕ} {wp sp wl sl : List ℕ} {d : Desk} {st : Standing} (g : Gi
 
   pub next-read : (k : ℕ) (o : Option Entry) → o ≡ next-above k (shown.pages-of n wp) → next-above k (work-pages (areas g)) ≡ o
   next-read k o e = sym (e ∙ ap (next-above k) pages-read)
+
+  pub previous-read : (k : ℕ) (o : Option Entry) → (AllPagesFit (shown.pages-of n wp) → o ≡ previous-below k (shown.pages-of n wp) (shown.lefts-of n wp)) → before k (areas g) ≡ o
+  unfolding read-areas
+  previous-read k o e =
+      let p = g .known .pages in
+      sym (e (subst AllPagesFit (sym (pages-shown p)) (p .fits)) ∙ ap (λ xs. previous-below k xs (shown.lefts-of n wp)) pages-read ∙ ap (previous-below k (work-pages (areas g))) (sym (lefts-read n wp (given-length g))))
 
   -- The log and the desk's rows, as held keys are looked for.
   pub held-known : pending.Known m wl (d .rows) (work-log (areas g)) (work-open (areas g))
@@ -50,6 +58,10 @@ module _ {n m : ℕ} {wp sp wl sl : List ℕ} {d : Desk} {st : Standing} (g : Gi
     pub next-12 : 8 ≤ i → Answers g (next b k) (Refused NoBatch)
     unfolding next-checks first-broken
     next-12 h = refuse g (next b k) NoBatch (rw (g .is-sound, open-none g b i e h))
+
+    pub previous-12 : 8 ≤ i → Answers g (previous b k) (Refused NoBatch)
+    unfolding previous-checks first-broken
+    previous-12 h = refuse g (previous b k) NoBatch (rw (g .is-sound, open-none g b i e h))
 
     module _ (h : i < 8) where
       there : is-none (find-batch b (work-open (areas g))) ≡ false
@@ -79,3 +91,15 @@ module _ {n m : ℕ} {wp sp wl sl : List ℕ} {d : Desk} {st : Standing} (g : Gi
       pub next-0 : (key v : ℕ) → next-above k (work-pages (areas g)) ≡ some (entry key v) → held-between b k key (work-open (areas g)) ≡ false → Answers g (next b k) (Pair key v)
       unfolding outcome next-limit
       next-0 key v f q = answer g (next b k) (Pair key v) (next-goes (areas g) d (g .is-sound) b k there (entry key v) f q)
+
+      pub previous-14 : (o : Option Entry) → before k (areas g) ≡ o → held-from b (previous-limit o) k (work-open (areas g)) ≡ true → Answers g (previous b k) (Refused Held)
+      unfolding previous-checks first-broken
+      previous-14 o f q = refuse g (previous b k) Held (rw (g .is-sound, there, f, q))
+
+      pub previous-16 : before k (areas g) ≡ none → held-from b 0 k (work-open (areas g)) ≡ false → Answers g (previous b k) (Refused Absent)
+      unfolding previous-checks first-broken previous-limit is-none
+      previous-16 f q = refuse g (previous b k) Absent (rw (g .is-sound, there, f, q))
+
+      pub previous-0 : (key v : ℕ) → before k (areas g) ≡ some (entry key v) → held-from b key k (work-open (areas g)) ≡ false → Answers g (previous b k) (Pair key v)
+      unfolding outcome previous-limit
+      previous-0 key v f q = answer g (previous b k) (Pair key v) (previous-goes (areas g) d (g .is-sound) b k there (entry key v) f q)

@@ -1,4 +1,4 @@
-// The calls on the lent areas of a sound register: begin, fetch, next, insert and delete.
+// The calls on the lent areas of a sound register: begin, fetch, next, previous, insert and delete.
 use call_reply::Reply;
 use call_reply::refused;
 use codec_desk::new_row;
@@ -13,12 +13,15 @@ use sound_parts::update_has_pages;
 use sound_parts::update_has_slots;
 use sound_pending::held;
 use sound_pending::held_between;
+use sound_pending::held_from;
 use sound_register::Standing;
 use tree_add::put_record;
+use tree_links::relink;
 use tree_lookup::Slide;
 use tree_lookup::Value;
 use tree_lookup::fetched;
 use tree_lookup::next_above;
+use tree_lookup::previous_below;
 use tree_remove::remove_record;
 use tree_write::Run;
 use tree_write::note;
@@ -133,6 +136,31 @@ pub fn next_in(wp: &[u8], wl: &[u8], n: usize, m: usize, d: Desk, b: u32, k: u32
         return refused(Refusal::Absent, d);
     };
     if held_between(wl, m, d, b, k, key) {
+        return refused(Refusal::Held, d);
+    }
+    Reply {
+        answer: Answer::Pair(key, v),
+        desk: d,
+    }
+}
+
+// 02, U5: "previous", the mirror of next, with the same rule on held keys.
+pub fn previous_in(wp: &[u8], wl: &[u8], n: usize, m: usize, d: Desk, b: u32, k: u32) -> Reply
+    requires { ⌜ HasAreas n m (now wp) (now wl) ⌝ }
+    ensures { λ r.
+        ⌜ ((budget : ℕ) (sp sl : List ℕ) (st : Standing) → Given n m (now (wp .entry)) sp (now (wl .entry)) sl d st
+        → Replies (calls.previous b k) (lent (now (wp .entry)) sp (now (wl .entry)) sl) d budget r (lent (now (wp .entry)) sp (now (wl .entry)) sl)) ⌝ }
+{
+    if open_row(d, b) == 8 {
+        return refused(Refusal::NoBatch, d);
+    }
+    let Slide::Is(key, v) = previous_below(wp, n, k) else {
+        if held_from(wl, m, d, b, 0, k) {
+            return refused(Refusal::Held, d);
+        }
+        return refused(Refusal::Absent, d);
+    };
+    if held_from(wl, m, d, b, key, k) {
         return refused(Refusal::Held, d);
     }
     Reply {
@@ -265,6 +293,7 @@ pub fn insert_in(
     };
     let last = d.rows[i].last;
     let e = put_record(wp, wl, n, m, t, 2, b, last, k, v);
+    relink(wp, n);
     Reply {
         answer: Answer::Done,
         desk: updated(d, i, b, e.logged),
@@ -300,6 +329,7 @@ pub fn delete_in(
     };
     let last = d.rows[i].last;
     let e = remove_record(wp, wl, n, m, t, 3, b, last, k, value_in(f));
+    relink(wp, n);
     Reply {
         answer: Answer::Done,
         desk: updated(d, i, b, e.logged),

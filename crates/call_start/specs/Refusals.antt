@@ -21,18 +21,17 @@ use Rattle.def_model.specs.Areas.{Areas}
 use Rattle.def_model.specs.Loading.{columns, keys-rise, loaded-count}
 use Rattle.def_model.specs.Calls.{load-checks, load-by, load-areas}
 use Rattle.def_model.specs.OnBytes.{Call, Lent, Result, load, lengths-ok, read-areas, outcome, call}
-use Rattle.law_areas.specs.Pages.{read-pages-length}
+use Rattle.law_areas.specs.Working.{read-work-length}
 use Rattle.theory_load.specs.Checked.{load-kept}
 use Rattle.area_load.specs.Columns.{Columns}
 use Rattle.area_lengths.specs.Lent.{lent, lengths-numbers}
-use Rattle.area_format.specs.Started.{Started}
-use Rattle.area_format.specs.Call.{started-result, load-result, started-left}
+use Rattle.area_format.specs.Call.{Linked, started-result, load-result, started-left}
 use Rattle.call_reply.specs.declared.Reply.{Reply}
 use Rattle.call_reply.specs.Replies.{Replies, left-with}
 
 -- A call that starts a register with some records.
 pub started-0 : (c : Call) (es : List Entry) (l after : Lent) (d : Desk) (budget : ℕ) (r : Reply) → call c l d ≡ started-result es (length (l .work-pages) / page-size) (length (l .work-log) / slot-size)
-    → Started es budget l after → r .answer ≡ Done → r .desk ≡ empty-desk → Replies c l d budget r after
+    → Linked es budget l after → r .answer ≡ Done → r .desk ≡ empty-desk → Replies c l d budget r after
 started-0 c es l after d budget r e f a k =
     record {
       answer = a ∙ ap (λ (x : Result). x .answer) (sym e);
@@ -84,7 +83,7 @@ module _ (ks vs wp sp wl sl : List ℕ) (lens : lengths-ok (lent wp sp wl sl) �
 
   count : length (read-areas l .work .pages) ≡ length wp / 128
   unfolding read-areas
-  count = read-pages-length (length wp / 128) wp (lengths-numbers wp sp wl sl lens .0)
+  count = read-work-length (length wp / 128) wp (lengths-numbers wp sp wl sl lens .0)
 
   first : first-broken (load-checks ks vs (read-areas l)) ≡ pick ok none (some why)
   first = judges (read-areas l) count
@@ -98,13 +97,13 @@ module _ (ks vs wp sp wl sl : List ℕ) (lens : lengths-ok (lent wp sp wl sl) �
     passed = first ∙ ap (λ b. pick b none (some why)) passes
 
     -- What the loader asks of the columns.
-    pub load-asks : Columns ks vs × (loaded-count (length ks) < length wp / 128)
+    pub load-asks : Columns ks vs × (loaded-count (length ks) < length wp / 128) × (keys-rise 0 ks ≡ true)
     load-asks =
         let k = load-kept ks vs (read-areas l) passed in
         let most = lengths-numbers wp sp wl sl lens .2 in
         let enough = k .enough in
         let n = count in
-        (record { same = k .same; few = omega arith }, omega arith)
+        (record { same = k .same; few = omega arith }, omega arith, k .rise)
 
-    pub load-0 : (d : Desk) (budget : ℕ) (r : Reply) (after : Lent) → Started (columns ks vs) budget l after → r .answer ≡ Done → r .desk ≡ empty-desk → Replies (load ks vs) l d budget r after
+    pub load-0 : (d : Desk) (budget : ℕ) (r : Reply) (after : Lent) → Linked (columns ks vs) budget l after → r .answer ≡ Done → r .desk ≡ empty-desk → Replies (load ks vs) l d budget r after
     load-0 d budget r after f = started-0 (load ks vs) (columns ks vs) l after d budget r (load-result l d lens ks vs passed) f

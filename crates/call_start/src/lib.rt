@@ -1,6 +1,6 @@
 // Formatting and loading, on lent areas of any lengths and any bytes.
-use area_format::format as formatted;
-use area_format::load as loaded;
+use area_format::format;
+use area_format::load;
 use area_lengths::lengths_ok;
 use area_load::tree_fits;
 use call_reply::Reply;
@@ -10,17 +10,49 @@ use def_layout::Desk;
 use def_layout::PAGE_SIZE;
 use def_model::Answer;
 use def_model::Refusal;
+use tree_links::relink;
 ghost use mathlib.Core.Path.{_≡_};
-ghost use mathlib.Core.Bool.{false};
-ghost use Prim.Native.Nat.{_≤_};
+ghost use mathlib.Core.Bool.{true, false};
+ghost use mathlib.Core.List.{[]};
+ghost use Prim.Native.Nat.{_/_, _≤_, _<_};
+ghost use lib.ListN.{length};
 ghost use lib.Dec.{eqb};
 ghost use Rattle.def_base.specs.Tests.{any};
 ghost use Rattle.def_layout.specs.Pages.{map-bits};
-ghost use Rattle.def_model.specs.Loading.{keys-rise};
+ghost use Rattle.def_layout.specs.Sizes.{page-size};
+ghost use Rattle.def_model.specs.Loading.{columns, keys-rise, loaded-count};
 ghost use Rattle.def_model.specs.OnBytes as calls;
-ghost use Rattle.area_lengths.specs.Lent.{at-entry, at-exit};
+ghost use Rattle.area_lengths.specs.Lent.{Sized, at-entry, at-exit};
+ghost use Rattle.area_load.specs.Columns.{Columns};
+ghost use Rattle.area_format.specs.Call.{Linked};
 ghost use Rattle.call_reply.specs.Replies.{Replies};
 ghost use Rattle.call_start.specs.Refusals.{Judges};
+
+// A register without slides, stored; then the left links of its working pages.
+fn start_empty(wp: &mut [u8], sp: &mut [u8], wl: &mut [u8], sl: &mut [u8], budget: usize)
+    requires { ⌜ Sized (now wp) (now sp) (now wl) (now sl) ⌝ }
+    ensures { λ _. ⌜ Linked [] budget (at-entry wp sp wl sl) (at-exit wp sp wl sl) ⌝ }
+{
+    format(wp, sp, wl, sl, budget);
+    relink(wp, wp.len() / PAGE_SIZE);
+}
+
+// The same of a register with the columns' records.
+fn start_loaded(
+    wp: &mut [u8],
+    sp: &mut [u8],
+    wl: &mut [u8],
+    sl: &mut [u8],
+    keys: &[u32],
+    values: &[u32],
+    budget: usize,
+)
+    requires { ⌜ Sized (now wp) (now sp) (now wl) (now sl) × Columns (now keys) (now values) × (loaded-count (length (now keys)) < length (now wp) / page-size) × (keys-rise 0 (now keys) ≡ true) ⌝ }
+    ensures { λ _. ⌜ Linked (columns (now (keys .entry)) (now (values .entry))) budget (at-entry wp sp wl sl) (at-exit wp sp wl sl) ⌝ }
+{
+    load(wp, sp, wl, sl, keys, values, budget);
+    relink(wp, wp.len() / PAGE_SIZE);
+}
 
 // "Format empties all four areas to a map and an empty root leaf": as many stores as the budget has.
 pub fn format_within(
@@ -37,7 +69,7 @@ pub fn format_within(
     if !lengths_ok(wp, sp, wl, sl) {
         return refused(Refusal::Lengths, emptied);
     }
-    formatted(wp, sp, wl, sl, budget);
+    start_empty(wp, sp, wl, sl, budget);
     Reply {
         answer: Answer::Done,
         desk: emptied,
@@ -127,7 +159,7 @@ pub fn load_within(
         let why = v.why;
         return refused(why, desk);
     }
-    loaded(wp, sp, wl, sl, keys, values, budget);
+    start_loaded(wp, sp, wl, sl, keys, values, budget);
     Reply {
         answer: Answer::Done,
         desk,

@@ -1,4 +1,5 @@
 // A page by value, read from and written to the 128 bytes where it stands.
+use codec_bytes::copy;
 use codec_bytes::get32;
 use codec_bytes::is_zero;
 use codec_bytes::set32;
@@ -14,19 +15,22 @@ use def_layout::ROOM;
 use def_layout::page;
 ghost use mathlib.Core.Path.{_≡_};
 ghost use mathlib.Core.Bool.{true};
-ghost use Prim.Native.Nat.{ℕ, _+_, _/_, _%_, _≤_, _<_};
-ghost use lib.ListN.{length};
+ghost use Prim.Native.Nat.{ℕ, _+_, _-_, _*_, _/_, _%_, _≤_, _<_};
+ghost use lib.ListN.{length, getD};
 ghost use Rattle.def_layout.specs.Sizes.{page-size, most-pages};
 ghost use Rattle.def_layout.specs.Pages.{at, zero-page, layout};
-ghost use Rattle.def_layout.specs.PageBytes.{page-fields, page-front, page-bytes, read-block};
+ghost use Rattle.def_layout.specs.PageBytes.{page-fields, page-front, page-bytes, read-block, without-left};
 ghost use Rattle.law_bytes.specs.AreaSizes.{HasPages};
 ghost use Rattle.law_bytes.specs.Words.{part};
 ghost use Rattle.law_bytes.specs.Patch.{patch};
 ghost use Rattle.law_bytes.specs.EntryBytes.{used};
 ghost use Rattle.codec_page.specs.Typed.{typed, shown-page, written, map-word, map-mark};
 ghost use Rattle.law_bytes.specs.PageBytes.{front-word};
-ghost use Rattle.law_bytes.specs.PageAreas.{pages-of};
+ghost use Rattle.law_bytes.specs.PageAreas.{pages-of, lefts-of, judged};
 ghost use Rattle.codec_page.specs.Judged.{unused-zero};
+ghost use Rattle.codec_page.specs.Working.{spare-zero};
+ghost use Rattle.law_bytes.specs.LeftLinks.{linked-word};
+ghost use Rattle.def_layout.specs.Numbers.{be32, put32};
 ghost use Rattle.codec_page.specs.Layouts.{bare-with, free-layout, leaf-layout, index-layout, map-layout, unmarked-from};
 ghost use Rattle.def_model.specs.Areas.{block-ok};
 
@@ -154,6 +158,69 @@ pub fn nth_page(pages: &[u8], n: usize, p: usize) -> Page
         return read_at(pages, PAGE_SIZE * p);
     }
     zero_page()
+}
+
+// The right link of page p alone.
+pub fn right_of(pages: &[u8], n: usize, p: usize) -> u32
+    requires { ⌜ HasPages n (now pages) ⌝ }
+    ensures { λ r. ⌜ r ≡ at (pages-of n (now (pages .entry))) p .right ⌝ }
+{
+    if p < n {
+        return get32(pages, PAGE_SIZE * p) / page::RIGHT_UNIT % 1024;
+    }
+    0
+}
+
+// The left link of working page p, 0 for none: only leaves have one.
+pub fn left_of(pages: &[u8], n: usize, p: usize) -> u32
+    requires { ⌜ HasPages n (now pages) ⌝ }
+    ensures { λ r. ⌜ r ≡ getD (lefts-of n (now (pages .entry))) p 0 ⌝ }
+{
+    if p >= n {
+        return 0;
+    }
+    let w = get32(pages, PAGE_SIZE * p);
+    if w / page::KIND_UNIT != page::LEAF {
+        return 0;
+    }
+    w / page::LEFT_UNIT % 1024
+}
+
+// A page's first word without its left link.
+fn unlinked(w: u32) -> u32
+    ensures { λ r. ⌜ r ≡ w - w / 4 % 1024 * 4 ⌝ }
+{
+    w - w / page::LEFT_UNIT % 1024 * page::LEFT_UNIT
+}
+
+// Leaf p gets the left link l, and nothing else of it changes.
+pub fn set_left(pages: &mut [u8], p: usize, l: u32)
+    requires { ⌜ (page-size * p + page-size ≤ length (now pages)) × (l < 1024) ⌝ }
+    ensures { λ _. ⌜ now (pages .exit) ≡ patch (now (pages .entry)) (page-size * p) (put32 (linked-word (be32 (now (pages .entry)) (page-size * p)) l)) ⌝ }
+{
+    let a = PAGE_SIZE * p;
+    let w = unlinked(get32(pages, a));
+    set32(pages, a, w + l * page::LEFT_UNIT);
+}
+
+// A working page's 128 bytes are copied as they are stored: without the left link.
+fn copy_unlinked(dst: &mut [u8], src: &[u8])
+    requires { ⌜ (length (now dst) ≡ page-size) × (length (now src) ≡ page-size) ⌝ }
+    ensures { λ _. ⌜ now (dst .exit) ≡ without-left (now (src .entry)) ⌝ }
+{
+    copy(dst, src);
+    let w = get32(src, page::FRONT_AT);
+    if w / page::KIND_UNIT == page::LEAF {
+        set32(dst, page::FRONT_AT, unlinked(w));
+    }
+}
+
+// 02, U5: "write-out stores it as zero". The page from byte `a` on.
+pub fn store_at(stable: &mut [u8], work: &[u8], a: usize)
+    requires { ⌜ (a + page-size ≤ length (now stable)) × (a + page-size ≤ length (now work)) ⌝ }
+    ensures { λ _. ⌜ now (stable .exit) ≡ patch (now (stable .entry)) a (without-left (part (now (work .entry)) a page-size)) ⌝ }
+{
+    copy_unlinked(&mut stable[a..a + PAGE_SIZE], &work[a..a + PAGE_SIZE]);
 }
 
 // Word j of the map's 28.
@@ -316,7 +383,7 @@ fn unused_zero(x: Page) -> bool
 // Whether page p, which is not the map's, was never used: all of it is zero. Its first word tells most others apart.
 fn is_never_used(b: &[u8], p: usize) -> bool
     requires { ⌜ length (now b) ≡ page-size ⌝ }
-    ensures { λ r. ⌜ (r ≡ true → (n : ℕ) → block-ok n p (read-block (now (b .entry))) ≡ true) ⌝ }
+    ensures { λ r. ⌜ (r ≡ true → (be32 (now (b .entry)) 0 ≡ 0) × ((n : ℕ) → block-ok n p (read-block (now (b .entry))) ≡ true)) ⌝ }
 {
     if p == 0 {
         return false;
@@ -327,9 +394,22 @@ fn is_never_used(b: &[u8], p: usize) -> bool
     is_zero(b)
 }
 
-// Refusal 3 finds nothing in the 128 bytes of page p of n.
-pub fn page_ok(b: &[u8], n: usize, p: usize) -> bool
-    ensures { λ r. ⌜ r ≡ block-ok n p (read-block (now (b .entry))) ⌝ }
+// Whether the spare bits of a page's first word are zero: of a working leaf those after the left link.
+fn is_spare_zero(w: u32, working: bool) -> bool
+    ensures { λ r. ⌜ r ≡ spare-zero working w ⌝ }
+{
+    if !working {
+        return w % page::RIGHT_UNIT == 0;
+    }
+    if w / page::KIND_UNIT != page::LEAF {
+        return w % page::RIGHT_UNIT == 0;
+    }
+    w % page::LEFT_UNIT == 0
+}
+
+// Refusal 3 finds nothing in the 128 bytes of page p of n: a stable page, or a working one, whose left link does not count.
+pub fn page_ok(b: &[u8], n: usize, p: usize, working: bool) -> bool
+    ensures { λ r. ⌜ r ≡ block-ok n p (read-block (judged working (now (b .entry)))) ⌝ }
 {
     if b.len() != PAGE_SIZE {
         return false;
@@ -337,7 +417,7 @@ pub fn page_ok(b: &[u8], n: usize, p: usize) -> bool
     if is_never_used(b, p) {
         return true;
     }
-    if get32(b, page::FRONT_AT) % page::RIGHT_UNIT != 0 {
+    if !is_spare_zero(get32(b, page::FRONT_AT), working) {
         return false;
     }
     if get32(b, page::OWN_AT) % page::OWN_UNIT != 0 {

@@ -1,9 +1,9 @@
 -- A page's 128 bytes. 01: "kind 2, level 4, count 4, right link 10 (0 none), spare 12; high key 32; page log number 32; own page number 10,
 -- spare 22; then 14 entries", or the map's bits instead of entries.
 use Prim.Native.Nat.{ℕ, zero, suc, _+_, _-_, _*_, _/_, _%_, _^_}
-use mathlib.Core.Bool.{Bool, true, false}
+use mathlib.Core.Bool.{Bool, true, false, _&&_}
 use mathlib.Core.List.{List, [], _∷_, _++_}
-use lib.ListN.{length, drop}
+use lib.ListN.{length, take, drop}
 use lib.Dec.{eqb}
 use Rattle.def_base.specs.Tests.{pick}
 use Rattle.def_layout.specs.declared.Entry.{Entry}
@@ -79,6 +79,23 @@ block-by false b = other b
 -- 01: "spare bits and unused entries are zero": the bytes are those of the fields that they show.
 unfoldable pub read-block : List ℕ → Block
 read-block b = block-by (same-bytes (page-bytes (page-fields b)) b) b
+
+-- ---- the left link of a working leaf
+
+-- 02, U5: "Leaves get a left link in the first 10 spare bits after the right link, in working pages only". What a working page's 128 bytes say in these bits, if they
+-- are a leaf's; its bytes without it; and bytes that get one. (Numbers that are no bytes are no leaf's.)
+unfoldable pub left-by : (leaf : Bool) → List ℕ → ℕ
+left-by true b = be32 b 0 / 4 % 1024
+left-by false b = 0
+
+unfoldable pub left-in : List ℕ → ℕ
+left-in b = left-by (eqb (be32 b 0 / 1073741824) 1 && same-bytes (put32 (be32 b 0)) (take 4 b)) b
+
+unfoldable pub without-left : List ℕ → List ℕ
+without-left b = pick (eqb (left-in b) 0) b (put32 (be32 b 0 - 4 * left-in b) ++ drop 4 b)
+
+unfoldable pub with-left : ℕ → List ℕ → List ℕ
+with-left l b = pick (eqb l 0) b (put32 (be32 b 0 + 4 * l) ++ drop 4 b)
 
 unfoldable pub block-bytes : Block → List ℕ
 block-bytes (page x) = page-bytes x

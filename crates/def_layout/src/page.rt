@@ -23,4 +23,9 @@ pub const COUNT_UNIT: u32 = 4194304;
 
 pub const RIGHT_UNIT: u32 = 4096;
 
+// 02, U5: "Leaves get a left link in the first 10 spare bits after the right link, in working pages only".
+pub const LEFT_UNIT: u32 = 4;
+
+pub const LEAF: u32 = 1;
+
 pub const OWN_UNIT: u32 = 4194304;

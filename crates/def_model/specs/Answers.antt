@@ -16,7 +16,7 @@ use Rattle.def_model.specs.Areas.{Side, Areas, Store}
 -- working areas or desk are not sound. 12 no such open batch. 13 eight are open. 14 held by another batch. 15 key present. 16 key absent, or
 -- none above. 17 log slots short. 18 pages short. 19 abort ran out of either. 02's, U1: "7, the key of an insert is 0". U2: "20, the mark is
 -- not the number of a record of that batch .. 19 also covers this undo". U3: "8, the columns differ in length .. 9, keys do not rise strictly ..
--- 18, too few pages".
+-- 18, too few pages". U5: "16 also means none below".
 unfoldable pub refusal-number : Refusal → ℕ
 refusal-number Lengths = 1
 refusal-number PageNumber = 2

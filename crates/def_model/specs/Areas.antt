@@ -9,9 +9,10 @@ use Rattle.def_layout.specs.Records.{Rec}
 use Rattle.def_layout.specs.RecordBytes.{Slot, empty}
 use Rattle.def_model.specs.Log.{slot-of, slots-from}
 
--- Pages and a log: the working ones, or the stable ones.
+-- Pages and a log: the working ones, or the stable ones. Working pages have left links, page by page (0 none); stable ones have no such list.
 pub record Side : Type 0 where
   pub pages : List Block
+  pub lefts : List ℕ
   pub log : List Slot
 
 pub record Areas : Type 0 where
@@ -37,22 +38,18 @@ blocks-ok n p (b ∷ bs) = block-ok n p b && blocks-ok n (suc p) bs
 
 -- An area of zeros.
 abbrev pub zero-side : ℕ → ℕ → Side
-zero-side pages slots = record { pages = replicate pages (page zero-page); log = replicate slots empty }
+zero-side pages slots = record { pages = replicate pages (page zero-page); lefts = replicate pages 0; log = replicate slots empty }
 
 -- ---- stores
 
--- 01: "One store is one page or one record". (Format stores empty slots too.)
+-- 01: "One store is one page or one record". (Format stores empty slots too.) 02, U5: "write-out stores it as zero": a page is stored without its left link.
 pub data Store : Type 0 where
   store-page : ℕ → Page → Store
   store-slot : ℕ → Slot → Store
 
--- A working page as it is stored: all of it. (A name of its own, since a working page may come to have fields that are not stored.)
-abbrev pub stored-page : Page → Page
-stored-page x = x
-
 unfoldable pub store : Store → Side → Side
-store (store-page p x) s = record { pages = set (s .pages) p (page (stored-page x)); log = s .log }
-store (store-slot n x) s = record { pages = s .pages; log = set (s .log) (slot-of n) x }
+store (store-page p x) s = record { pages = set (s .pages) p (page x); lefts = s .lefts; log = s .log }
+store (store-slot n x) s = record { pages = s .pages; lefts = s .lefts; log = set (s .log) (slot-of n) x }
 
 unfoldable pub store-all : List Store → Side → Side
 store-all [] s = s

@@ -19,12 +19,13 @@ use Rattle.def_model.specs.declared.Answer.{Answer}
 use Rattle.def_model.specs.declared.Answer.the-variants.{Done, Number, Pair, Refused}
 use Rattle.def_base.specs.Tests.{any}
 use Rattle.def_model.specs.Fit.{found}
+use Rattle.def_model.specs.Links.{relinked}
 use Rattle.def_model.specs.Loading.{columns, keys-rise, loaded-count, loaded-pages}
 use Rattle.def_model.specs.Log.{last-number, slots-used, log-area}
-use Rattle.def_model.specs.Lookup.{fetched, next-above}
+use Rattle.def_model.specs.Lookup.{fetched, next-above, previous-below}
 use Rattle.def_model.specs.Update.{Run, emit, put-record, remove-record}
 use Rattle.def_model.specs.Batches.{Batch, find-batch, unmarked, is-record-of, desk-of}
-use Rattle.def_model.specs.Pending.{held, held-between}
+use Rattle.def_model.specs.Pending.{held, held-between, held-from}
 use Rattle.def_model.specs.Undo.{return-run, abort-run}
 use Rattle.def_model.specs.Areas.{Side, Areas, Store, store-page, slot-stores, log-stores}
 use Rattle.def_model.specs.Answers.{Outcome, Check, check, first-broken, refuse}
@@ -34,11 +35,15 @@ use Rattle.def_model.specs.Sound.{sound, work-pages, work-log, work-slot
 
 unfoldable pub run-of : Areas → Run
 run-of a =
-    record { pages = work-pages a; log = work-log a; due = suc (last-number (work-log a)); room = work-slots a - slots-used (work-log a); stop = 0 }
+    record { pages = work-pages a; lefts = a .work .lefts; log = work-log a; due = suc (last-number (work-log a)); room = work-slots a - slots-used (work-log a); stop = 0 }
 
--- The working areas that a run leaves, its log in so many slots.
+-- The working areas that a run leaves, its left links worked out, its log in so many slots.
 unfoldable pub run-side : ℕ → Run → Side
-run-side slots s = record { pages = map page (s .pages); log = log-area slots (s .log) }
+run-side slots s = record { pages = map page (s .pages); lefts = relinked (s .pages) (s .lefts); log = log-area slots (s .log) }
+
+-- The working areas of a register that starts with these pages.
+unfoldable pub start-side : List Page → ℕ → Side
+start-side pages slots = record { pages = map page pages; lefts = relinked pages []; log = replicate slots empty }
 
 -- A call that passed, storing nothing; and one that stores all that is unstored, and then more.
 unfoldable pub kept-run : Answer → Areas → Run → Desk → Outcome
@@ -105,7 +110,7 @@ format-areas a d =
     let slots = length (a .work .log) in
     record {
       answer = Done;
-      work = record { pages = map page pages; log = replicate slots empty };
+      work = start-side pages slots;
       desk = empty-desk;
       stores = format-stores pages slots;
     }
@@ -127,7 +132,7 @@ load-by none ks vs a =
     let slots = length (a .work .log) in
     record {
       answer = Done;
-      work = record { pages = map page pages; log = replicate slots empty };
+      work = start-side pages slots;
       desk = empty-desk;
       stores = format-stores pages slots;
     }
@@ -186,6 +191,25 @@ next-slide-by none k a d = unchanged (next-answer (next-above k (work-pages a)))
 
 unfoldable pub next-slide : ℕ → ℕ → Areas → Desk → Outcome
 next-slide b k a d = next-slide-by (first-broken (next-checks b k a d)) k a d
+
+-- 02, U5: "previous", the mirror of next, with the same rule on held keys. 16 also means none below.
+abbrev pub before : ℕ → Areas → Option Entry
+before k a = previous-below k (work-pages a) (a .work .lefts)
+
+unfoldable pub previous-limit : Option Entry → ℕ
+previous-limit none = 0
+previous-limit (some e) = e .key
+
+unfoldable pub previous-checks : ℕ → ℕ → Areas → Desk → List Check
+previous-checks b k a d =
+    is-unsound a d ∷ no-batch b a ∷ check (held-from b (previous-limit (before k a)) k (work-open a)) Held ∷ check (is-none (before k a)) Absent ∷ []
+
+unfoldable pub previous-slide-by : Option Refusal → ℕ → Areas → Desk → Outcome
+previous-slide-by (some r) k a d = refuse r a d
+previous-slide-by none k a d = unchanged (next-answer (before k a)) a d
+
+unfoldable pub previous-slide : ℕ → ℕ → Areas → Desk → Outcome
+previous-slide b k a d = previous-slide-by (first-broken (previous-checks b k a d)) k a d
 
 -- ---- insert and delete
 

@@ -2,6 +2,7 @@ pub mod Change
 pub mod Fit
 pub mod Redo
 pub mod TreeRules
+pub mod Links
 pub mod Loading
 pub mod Lookup
 pub mod Update

@@ -3,7 +3,8 @@ use Prim.Native.Nat.{ℕ, zero, suc, _-_}
 use mathlib.Core.Bool.{Bool, true, false}
 use mathlib.Core.List.{List, [], _∷_}
 use mathlib.Core.Option.{Option, none, some}
-use lib.Dec.{leb}
+use lib.ListN.{getD}
+use lib.Dec.{leb, ltb, eqb}
 use Rattle.def_base.specs.Tests.{pick}
 use Rattle.def_layout.specs.declared.Entry.{Entry}
 use Rattle.def_layout.specs.Entries.{top, no-entry, seek, look}
@@ -48,3 +49,30 @@ next-by false k pages = let p = leaf-of (suc k) pages in or-after (seek (suc k) 
 -- 01: "Next answers the first record above a key." In the leaf that covers the key after it, or else first in the leaf after that one.
 unfoldable pub next-above : ℕ → List Page → Option Entry
 next-above k pages = next-by (leb top k) k pages
+
+-- ---- previous
+
+unfoldable pub or-this : Option Entry → Entry → Entry
+or-this none e = e
+or-this (some f) e = f
+
+-- The last entry whose key is below k: of entries that rise, the one before k's place.
+unfoldable pub last-below : ℕ → List Entry → Option Entry
+last-below k [] = none
+last-below k (e ∷ es) = pick (ltb (e .key) k) (some (or-this (last-below k es) e)) none
+
+unfoldable pub last-entry : List Entry → Option Entry
+last-entry [] = none
+last-entry (e ∷ es) = some (or-this (last-entry es) e)
+
+-- 02, U5: "previous", the mirror of next: in the leaf that covers the key before it, or else last in the leaf to the left of that one.
+unfoldable pub or-before : Option Entry → ℕ → List Page → List ℕ → Option Entry
+or-before (some e) p pages lefts = some e
+or-before none p pages lefts = last-entry (at pages (getD lefts p 0) .entries)
+
+unfoldable pub previous-by : (at-zero : Bool) → ℕ → List Page → List ℕ → Option Entry
+previous-by true k pages lefts = none
+previous-by false k pages lefts = let p = leaf-of (k - 1) pages in or-before (last-below k (at pages p .entries)) p pages lefts
+
+unfoldable pub previous-below : ℕ → List Page → List ℕ → Option Entry
+previous-below k pages lefts = previous-by (eqb k 0) k pages lefts

@@ -6,16 +6,16 @@ use lib.ListN.{length, take, drop}
 use lib.Dec.{leb, eqb}
 use Rattle.def_layout.specs.declared.Desk.{Desk}
 use Rattle.def_layout.specs.Desks.{empty-desk}
-use Rattle.def_layout.specs.PageBytes.{Block, page-bytes, read-block, block-bytes}
+use Rattle.def_layout.specs.PageBytes.{Block, page-bytes, read-block, block-bytes, left-in, without-left, with-left}
 use Rattle.def_layout.specs.Sizes.{page-size, slot-size}
 use Rattle.def_layout.specs.RecordBytes.{Slot, read-slot, slot-bytes}
 use Rattle.def_model.specs.declared.Refusal.the-variants.{Lengths}
 use Rattle.def_model.specs.declared.Answer.{Answer}
 use Rattle.def_model.specs.declared.Answer.the-variants.{Refused}
-use Rattle.def_model.specs.Areas.{Areas, Store, store-page, store-slot, stored-page}
+use Rattle.def_model.specs.Areas.{Areas, Store, store-page, store-slot}
 use Rattle.def_model.specs.Log.{slot-of}
 use Rattle.def_model.specs.Answers.{Outcome}
-use Rattle.def_model.specs.Calls.{format-areas, load-areas, begin-batch, fetch-slide, next-slide, insert-slide, delete-slide, commit-batch, abort-batch, mark-batch, return-batch, write-out-page}
+use Rattle.def_model.specs.Calls.{format-areas, load-areas, begin-batch, fetch-slide, next-slide, previous-slide, insert-slide, delete-slide, commit-batch, abort-batch, mark-batch, return-batch, write-out-page}
 use Rattle.def_model.specs.Restart.{restart-areas}
 
 -- 01: "The caller lends working pages, stable pages, a working log and a stable log."
@@ -38,11 +38,26 @@ joined (x ∷ xs) = x ++ joined xs
 unfoldable pub read-pages : List ℕ → List Block
 read-pages b = map read-block (parts (length b / page-size) page-size b)
 
+-- Working pages: without their left links, and these.
+unfoldable pub read-work : List ℕ → List Block
+read-work b = map (λ x. read-block (without-left x)) (parts (length b / page-size) page-size b)
+
+unfoldable pub read-lefts : List ℕ → List ℕ
+read-lefts b = map left-in (parts (length b / page-size) page-size b)
+
 unfoldable pub read-log : List ℕ → List Slot
 read-log b = map read-slot (parts (length b / slot-size) slot-size b)
 
 unfoldable pub pages-bytes : List Block → List ℕ
 pages-bytes bs = joined (map block-bytes bs)
+
+unfoldable pub work-parts : List Block → List ℕ → List (List ℕ)
+work-parts [] ls = []
+work-parts (b ∷ bs) [] = block-bytes b ∷ work-parts bs []
+work-parts (b ∷ bs) (l ∷ ls) = with-left l (block-bytes b) ∷ work-parts bs ls
+
+unfoldable pub work-bytes : List Block → List ℕ → List ℕ
+work-bytes bs ls = joined (work-parts bs ls)
 
 unfoldable pub log-bytes : List Slot → List ℕ
 log-bytes s = joined (map slot-bytes s)
@@ -50,8 +65,8 @@ log-bytes s = joined (map slot-bytes s)
 unfoldable pub read-areas : Lent → Areas
 read-areas l =
     record {
-      work = record { pages = read-pages (l .work-pages); log = read-log (l .work-log) };
-      stable = record { pages = read-pages (l .stable-pages); log = read-log (l .stable-log) };
+      work = record { pages = read-work (l .work-pages); lefts = read-lefts (l .work-pages); log = read-log (l .work-log) };
+      stable = record { pages = read-pages (l .stable-pages); lefts = []; log = read-log (l .stable-log) };
     }
 
 -- ---- refusal 1
@@ -71,7 +86,7 @@ lengths-ok l =
 pub data Call : Type 0 where
   format begin restart : Call
   load : (keys values : List ℕ) → Call
-  fetch next : ℕ → ℕ → Call
+  fetch next previous : ℕ → ℕ → Call
   insert : ℕ → ℕ → ℕ → Call
   delete : ℕ → ℕ → Call
   commit abort write-out take-mark : ℕ → Call
@@ -85,6 +100,7 @@ outcome begin a d = begin-batch a d
 outcome restart a d = restart-areas a d
 outcome (fetch b k) a d = fetch-slide b k a d
 outcome (next b k) a d = next-slide b k a d
+outcome (previous b k) a d = previous-slide b k a d
 outcome (insert b k v) a d = insert-slide b k v a d
 outcome (delete b k) a d = delete-slide b k a d
 outcome (commit b) a d = commit-batch b a d
@@ -101,6 +117,7 @@ refused-desk begin d = d
 refused-desk restart d = empty-desk
 refused-desk (fetch b k) d = d
 refused-desk (next b k) d = d
+refused-desk (previous b k) d = d
 refused-desk (insert b k v) d = d
 refused-desk (delete b k) d = d
 refused-desk (commit b) d = d
@@ -121,7 +138,7 @@ unfoldable pub call-by : (lengths-right : Bool) → Call → Lent → Desk → R
 call-by false c l d = record { answer = Refused Lengths; work-pages = l .work-pages; work-log = l .work-log; desk = refused-desk c d; stores = [] }
 call-by true c l d =
     let o = outcome c (read-areas l) d in
-    record { answer = o .answer; work-pages = pages-bytes (o .work .pages); work-log = log-bytes (o .work .log); desk = o .desk; stores = o .stores }
+    record { answer = o .answer; work-pages = work-bytes (o .work .pages) (o .work .lefts); work-log = log-bytes (o .work .log); desk = o .desk; stores = o .stores }
 
 -- A CALL ON BYTES.
 unfoldable pub call : Call → Lent → Desk → Result
@@ -133,7 +150,7 @@ put-part from new b = take from b ++ new ++ drop (from + length new) b
 
 unfoldable pub store-bytes : Store → Lent → Lent
 store-bytes (store-page p x) l =
-    record { work-pages = l .work-pages; stable-pages = put-part (page-size * p) (page-bytes (stored-page x)) (l .stable-pages); work-log = l .work-log; stable-log = l .stable-log }
+    record { work-pages = l .work-pages; stable-pages = put-part (page-size * p) (page-bytes x) (l .stable-pages); work-log = l .work-log; stable-log = l .stable-log }
 store-bytes (store-slot n x) l =
     record { work-pages = l .work-pages; stable-pages = l .stable-pages; work-log = l .work-log; stable-log = put-part (slot-size * slot-of n) (slot-bytes x) (l .stable-log) }
 

@@ -23,6 +23,10 @@ held n k bs = any (λ b. not (eqb n (b .number)) && holds b k) bs
 unfoldable pub held-between : ℕ → ℕ → ℕ → List Batch → Bool
 held-between n low high bs = any (λ b. not (eqb n (b .number)) && any (λ l. ltb low (l .key) && leb (l .key) high) (b .lines)) bs
 
+-- Another batch holds a key from `low` on, below `high`.
+unfoldable pub held-from : ℕ → ℕ → ℕ → List Batch → Bool
+held-from n low high bs = any (λ b. not (eqb n (b .number)) && any (λ l. leb low (l .key) && ltb (l .key) high) (b .lines)) bs
+
 -- ---- the pending rule
 
 -- The newest line on k.

@@ -37,6 +37,14 @@ redo-places n r (p ∷ ps) pages = redo-places n r ps (redo-page n r p pages)
 unfoldable pub redo-record : ℕ → Rec → List Page → List Page
 redo-record n r pages = redo-places n r (places r) pages
 
+-- A page that is changed is written whole: its left link is none from then on, until the call's end (`Links: relinked`).
+unfoldable pub redo-left : ℕ → ℕ → List Page → List ℕ → List ℕ
+redo-left n p pages lefts = pick (is-lower n p pages) (set lefts p 0) lefts
+
+unfoldable pub redo-lefts : ℕ → Rec → List ℕ → List Page → List ℕ → List ℕ
+redo-lefts n r [] pages lefts = lefts
+redo-lefts n r (p ∷ ps) pages lefts = redo-lefts n r ps (redo-page n r p pages) (redo-left n p pages lefts)
+
 -- The records from number n on.
 unfoldable pub replay : ℕ → List Rec → List Page → List Page
 replay n [] pages = pages

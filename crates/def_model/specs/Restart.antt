@@ -39,7 +39,7 @@ redone-pages a = replay 1 (stable-log a) (stable-pages a)
 
 unfoldable pub redone : Areas → Run
 redone a =
-    record { pages = redone-pages a; log = stable-log a; due = suc (last-number (stable-log a)); room = stable-slots a - slots-used (stable-log a); stop = 0 }
+    record { pages = redone-pages a; lefts = []; log = stable-log a; due = suc (last-number (stable-log a)); room = stable-slots a - slots-used (stable-log a); stop = 0 }
 
 -- Then abort marks, ends of idle batches, and undo: of the batches that the log says are open at each point.
 unfoldable pub settle : Run → Run

@@ -15,6 +15,7 @@ use Rattle.def_model.specs.Log.{last-number, slots-used, records-of, slo
 use Rattle.def_model.specs.Batches.{Batch, open-batches, chain-ok, desk-of, pending-count}
 use Rattle.def_model.specs.Pending.{pending-ok}
 use Rattle.def_model.specs.TreeRules.{tree-ok, free-pages}
+use Rattle.def_model.specs.Links.{lefts-ok}
 use Rattle.def_model.specs.Areas.{Side, Areas, pages-of, blocks-ok}
 
 -- ---- what restart's 3 and 4 find, in the working or the stable areas
@@ -103,8 +104,8 @@ unfoldable pub stored-ok : Areas → Desk → Bool
 stored-ok a d = leb (d .stored) (last-number (work-log a)) && same-slots (a .stable .log) (log-area (length (a .stable .log)) (take (d .stored) (work-log a)))
 
 -- SOUND. 01: "restart's 3 and 4 find nothing in the working areas; tree rules and pending rule hold; the desk is what the working log says; ..
--- the reserves below hold".
+-- the reserves below hold". 02, U5: "Soundness now includes that left and right links agree."
 unfoldable pub sound : Areas → Desk → Bool
 sound a d =
     layouts-ok (a .work) && (log-ok (a .work) && (tree-ok (work-pages a) && (pending-ok (work-pages a) (work-open a)
-    && (desk-ok a d && (stored-ok a d && reserves-ok (work-slots a) (work-pages a) (work-log a) (work-open a))))))
+    && (desk-ok a d && (stored-ok a d && (reserves-ok (work-slots a) (work-pages a) (work-log a) (work-open a) && lefts-ok (work-pages a) (a .work .lefts)))))))

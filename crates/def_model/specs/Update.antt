@@ -11,14 +11,15 @@ use Rattle.def_layout.specs.Entries.{no-entry, key-at}
 use Rattle.def_layout.specs.Sizes.{room}
 use Rattle.def_layout.specs.Pages.{Page, at, size}
 use Rattle.def_layout.specs.Records.{Rec, Kind, split-row, link-row, unlink-row, merge-row, redistribute-row, raise-row, lower-row, data-row}
-use Rattle.def_model.specs.Redo.{redo-record}
+use Rattle.def_model.specs.Redo.{places, redo-record, redo-lefts}
 use Rattle.def_model.specs.TreeRules.{least}
 use Rattle.def_model.specs.Lookup.{entry-for, covering, first-of}
 
--- The pages, the log, the number due, the room (how many records may still be written), and why it stopped (0: it goes on; else 17 or 18,
+-- The pages and their left links, the log, the number due, the room (how many records may still be written), and why it stopped (0: it goes on; else 17 or 18,
 -- the first that was met).
 pub record Run : Type 0 where
   pub pages : List Page
+  pub lefts : List ℕ
   pub log : List Rec
   pub due : ℕ
   pub room : ℕ
@@ -28,11 +29,11 @@ abbrev pub going : Run → Bool
 going s = eqb (s .stop) 0
 
 abbrev pub stopped : ℕ → Run → Run
-stopped n s = record { pages = s .pages; log = s .log; due = s .due; room = s .room; stop = n }
+stopped n s = record { pages = s .pages; lefts = s .lefts; log = s .log; due = s .due; room = s .room; stop = n }
 
 -- One record is logged and applied, if there is room for it.
 unfoldable pub logged : Rec → Run → Run
-logged r s = record { pages = redo-record (s .due) r (s .pages); log = s .log ++ r ∷ []; due = suc (s .due); room = s .room - 1; stop = 0 }
+logged r s = record { pages = redo-record (s .due) r (s .pages); lefts = redo-lefts (s .due) r (places r) (s .pages) (s .lefts); log = s .log ++ r ∷ []; due = suc (s .due); room = s .room - 1; stop = 0 }
 
 unfoldable pub emit-by : (goes has-room : Bool) → Rec → Run → Run
 emit-by true true r s = logged r s

@@ -8,7 +8,7 @@ use Rattle.def_layout.specs.declared.Entry.{Entry}
 use Rattle.def_layout.specs.Entries.{insert-sorted, remove-key}
 use Rattle.def_model.specs.declared.Answer.{Answer}
 use Rattle.def_model.specs.Answers.{answer-numbers}
-use Rattle.def_model.specs.OnBytes.{Call, format, load, begin, restart, fetch, next, insert, delete, commit, abort, write-out, take-mark, return-to}
+use Rattle.def_model.specs.OnBytes.{Call, format, load, begin, restart, fetch, next, previous, insert, delete, commit, abort, write-out, take-mark, return-to}
 
 -- A line on a sheet: a slide filed, or a key struck out.
 pub data BookLine : Type 0 where
@@ -97,6 +97,7 @@ book-call begin a m b = open-sheet (answer-numbers a .first) b
 book-call restart a m b = abort-sheets b
 book-call (fetch n k) a m b = b
 book-call (next n k) a m b = b
+book-call (previous n k) a m b = b
 book-call (insert n k v) a m b = write-line n m (file k v) b
 book-call (delete n k) a m b = write-line n m (strike k) b
 book-call (commit n) a m b = commit-sheet n b
@@ -113,6 +114,7 @@ book-cut begin stored b = b
 book-cut restart stored b = b
 book-cut (fetch n k) stored b = b
 book-cut (next n k) stored b = b
+book-cut (previous n k) stored b = b
 book-cut (insert n k v) stored b = b
 book-cut (delete n k) stored b = b
 book-cut (commit n) stored b = pick stored (commit-sheet n b) b

@@ -19,7 +19,7 @@ use Rattle.def_model.specs.Sound.{reserve, reserves-ok}
 use Rattle.def_model.specs.Areas.{Areas, pages-of}
 use Rattle.def_model.specs.Restart.{stable-log, stable-slots, redone, redone-pages, settle}
 use Rattle.def_model.specs.OnBytes
-use Rattle.def_model.specs.OnBytes.{Call, call, Lent, restart, lengths-ok, read-areas, read-pages}
+use Rattle.def_model.specs.OnBytes.{Call, call, Lent, restart, lengths-ok, read-areas, read-work}
 use Rattle.def_recovery.specs.Events.{World, Event, ended, result, passes, happen-all, is-format, of-32-bits, AllAllowed, started}
 
 -- ---- the further restart, "given right lengths and not cut"
@@ -41,7 +41,7 @@ RedoBalances w = tree-ok (redone-pages (stored w)) ≡ true
 
 -- "where it finishes, the records in the leaves are exactly the plain book's slides (01), keys and values"
 abbrev pub LeavesAreSlides : World → Type 0
-LeavesAreSlides w = reason w ≡ 0 → leaf-records (pages-of (read-pages (result restart w .work-pages))) ≡ w .book .slides
+LeavesAreSlides w = reason w ≡ 0 → leaf-records (pages-of (read-work (result restart w .work-pages))) ≡ w .book .slides
 
 -- ---- reported commits
 
@@ -62,7 +62,7 @@ ReportedIsStored es w =
 
 -- The same restart, had it room for so many records.
 abbrev pub with-room : ℕ → Run → Run
-with-room n s = record { pages = s .pages; log = s .log; due = s .due; room = n; stop = s .stop }
+with-room n s = record { pages = s .pages; lefts = s .lefts; log = s .log; due = s .due; room = n; stop = s .stop }
 
 abbrev pub settled : ℕ → World → Run
 settled n w = settle (with-room n (redone (stored w)))

@@ -14,7 +14,7 @@ use Rattle.def_layout.specs.Numbers.{zeros}
 use Rattle.def_model.specs.declared.Answer.{Answer}
 use Rattle.def_model.specs.Answers.{passed}
 use Rattle.def_model.specs.Loading.{columns}
-use Rattle.def_model.specs.OnBytes.{Call, format, load, begin, restart, fetch, next, insert, delete, commit, abort, write-out, take-mark, return-to, Lent, Result, call, lent-after}
+use Rattle.def_model.specs.OnBytes.{Call, format, load, begin, restart, fetch, next, previous, insert, delete, commit, abort, write-out, take-mark, return-to, Lent, Result, call, lent-after}
 use Rattle.def_recovery.specs.Book.{Book, new-book, book-call, book-cut}
 
 -- What a cut may leave in the working areas and the desk: anything.
@@ -58,6 +58,7 @@ fed begin d = 0
 fed restart d = 0
 fed (fetch n k) d = 0
 fed (next n k) d = 0
+fed (previous n k) d = 0
 fed (insert n k v) d = last-in n (d .rows)
 fed (delete n k) d = last-in n (d .rows)
 fed (commit n) d = 0
@@ -129,6 +130,7 @@ is-format begin = false
 is-format restart = false
 is-format (fetch n k) = false
 is-format (next n k) = false
+is-format (previous n k) = false
 is-format (insert n k v) = false
 is-format (delete n k) = false
 is-format (commit n) = false
@@ -144,6 +146,7 @@ is-restart begin = false
 is-restart restart = true
 is-restart (fetch n k) = false
 is-restart (next n k) = false
+is-restart (previous n k) = false
 is-restart (insert n k v) = false
 is-restart (delete n k) = false
 is-restart (commit n) = false
@@ -163,6 +166,7 @@ of-32-bits begin = true
 of-32-bits restart = true
 of-32-bits (fetch n k) = fits-32 n && fits-32 k
 of-32-bits (next n k) = fits-32 n && fits-32 k
+of-32-bits (previous n k) = fits-32 n && fits-32 k
 of-32-bits (insert n k v) = fits-32 n && (fits-32 k && fits-32 v)
 of-32-bits (delete n k) = fits-32 n && fits-32 k
 of-32-bits (commit n) = fits-32 n
@@ -195,6 +199,7 @@ first-slides begin = []
 first-slides restart = []
 first-slides (fetch n k) = []
 first-slides (next n k) = []
+first-slides (previous n k) = []
 first-slides (insert n k v) = []
 first-slides (delete n k) = []
 first-slides (commit n) = []

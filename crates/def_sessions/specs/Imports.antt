@@ -33,7 +33,7 @@ abbrev pub two-leaves : Session
 two-leaves =
     import 16 15
     (page-entries 1 (entry 100 2 ∷ entry top 3 ∷ []) ∷ front 2 (66 ∷ 128 ∷ 48 ∷ 0 ∷ []) (0 ∷ 0 ∷ 0 ∷ 100 ∷ []) (0 ∷ 128 ∷ 0 ∷ 0 ∷ []) ∷ page-entries 3 (entry 110 11 ∷ entry 120 12 ∷ entry 130 13 ∷ entry 140 14 ∷ entry 150 15 ∷ [])
-    ∷ front 3 (65 ∷ 64 ∷ 0 ∷ 0 ∷ []) top-bytes (0 ∷ 192 ∷ 0 ∷ 0 ∷ []) ∷ page-bytes-from 0 16 (240 ∷ replicate 31 0) ∷ kinds-from 1 [] ∷ [])
+    ∷ front 3 (65 ∷ 64 ∷ 0 ∷ 8 ∷ []) top-bytes (0 ∷ 192 ∷ 0 ∷ 0 ∷ []) ∷ page-bytes-from 0 16 (240 ∷ replicate 31 0) ∷ kinds-from 1 [] ∷ [])
 
 -- "if the last would hold fewer than 4 it shares evenly with the one before, the left taking the larger half".
 abbrev pub three-leaves : (records second third : ℕ) → Session

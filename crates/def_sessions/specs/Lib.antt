@@ -11,4 +11,6 @@ pub mod Field
 pub mod ClaimField
 pub mod Imports
 pub mod ClaimImports
+pub mod Backwards
+pub mod ClaimBackwards
 pub mod OnBytes

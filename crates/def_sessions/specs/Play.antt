@@ -11,9 +11,10 @@ use Rattle.def_layout.specs.Desks.{empty-desk}
 use Rattle.def_layout.specs.Numbers.{same-bytes}
 use Rattle.def_layout.specs.Entries.{same-entries}
 use Rattle.def_layout.specs.Pages.{at, page-kind-number}
-use Rattle.def_layout.specs.PageBytes.{Block, page-bytes}
+use Rattle.def_layout.specs.PageBytes.{Block, page-bytes, with-left}
 use Rattle.def_layout.specs.Records.{kind-number}
 use Rattle.def_layout.specs.RecordBytes.{Slot}
+use Rattle.def_model.specs.Links.{left-at}
 use Rattle.def_model.specs.Areas.{Side, Areas, zero-side, store-some}
 use Rattle.def_model.specs.Log.{slot-of}
 use Rattle.def_model.specs.Answers.{Outcome, Numbers, answer-numbers}
@@ -22,12 +23,13 @@ use Rattle.def_model.specs.TreeRules.{leaf-records}
 use Rattle.def_model.specs.OnBytes.{Call, format, outcome}
 
 -- A call that ends; one that is cut after so many of its stores, and leaves nothing of use in the working areas and the desk; or a stable page,
--- or the slot of a log number, in whose place something else is put.
+-- or the slot of a log number, or a working page's left link, in whose place something else is put.
 pub data Step : Type 0 where
   ask : Call → Step
   cut : ℕ → Call → Step
   forge-page : ℕ → Block → Step
   forge-slot : ℕ → Slot → Step
+  forge-left : ℕ → ℕ → Step
 
 -- The four areas, the desk, and the answers so far, each as 0 or the refusal and two values.
 pub record Machine : Type 0 where
@@ -58,11 +60,17 @@ cut-off j o m =
 unfoldable pub forged : Side → Machine → Machine
 forged s m = record { areas = record { work = m .areas .work; stable = s }; desk = m .desk; answers = m .answers }
 
+unfoldable pub mislinked : ℕ → ℕ → Machine → Machine
+mislinked p l m =
+    let s = m .areas .work in
+    record { areas = record { work = record { pages = s .pages; lefts = set (s .lefts) p l; log = s .log }; stable = m .areas .stable }; desk = m .desk; answers = m .answers }
+
 unfoldable pub play-step : Step → Machine → Machine
 play-step (ask c) m = ended (outcome c (m .areas) (m .desk)) m
 play-step (cut j c) m = cut-off j (outcome c (m .areas) (m .desk)) m
-play-step (forge-page p x) m = let s = m .areas .stable in forged (record { pages = set (s .pages) p x; log = s .log }) m
-play-step (forge-slot n x) m = let s = m .areas .stable in forged (record { pages = s .pages; log = set (s .log) (slot-of n) x }) m
+play-step (forge-page p x) m = let s = m .areas .stable in forged (record { pages = set (s .pages) p x; lefts = s .lefts; log = s .log }) m
+play-step (forge-slot n x) m = let s = m .areas .stable in forged (record { pages = s .pages; lefts = s .lefts; log = set (s .log) (slot-of n) x }) m
+play-step (forge-left p l) m = mislinked p l m
 
 unfoldable pub play : List Step → Machine → Machine
 play [] m = m
@@ -71,7 +79,8 @@ play (s ∷ ss) m = play ss (play-step s m)
 -- A new register of so many pages and slots: lent as zeros, and formatted.
 unfoldable pub new : ℕ → ℕ → Machine
 new pages slots =
-    let a : Areas = record { work = zero-side pages slots; stable = zero-side pages slots } in
+    let z = zero-side pages slots in
+    let a : Areas = record { work = z; stable = record { pages = z .pages; lefts = []; log = z .log } } in
     let m = ended (outcome format a empty-desk) (record { areas = a; desk = empty-desk; answers = [] }) in
     record { areas = m .areas; desk = m .desk; answers = [] }
 
@@ -80,7 +89,7 @@ new pages slots =
 pub data See : Type 0 where
   page-keys : ℕ → List ℕ → See
   page-entries : ℕ → List Entry → See
-  page-right : ℕ → ℕ → See
+  page-right page-left : ℕ → ℕ → See
   page-kind-is : ℕ → ℕ → See
   page-count : ℕ → ℕ → See
   page-bytes-from : ℕ → ℕ → List ℕ → See
@@ -92,9 +101,10 @@ unfoldable pub seen : Machine → See → Bool
 seen m (page-keys p ks) = same-bytes (map (λ e. e .key) (at (work-pages (m .areas)) p .entries)) ks
 seen m (page-entries p es) = same-entries (at (work-pages (m .areas)) p .entries) es
 seen m (page-right p r) = eqb (at (work-pages (m .areas)) p .right) r
+seen m (page-left p l) = eqb (left-at (m .areas .work .lefts) p) l
 seen m (page-kind-is p k) = eqb (page-kind-number (at (work-pages (m .areas)) p .kind)) k
 seen m (page-count p n) = eqb (length (at (work-pages (m .areas)) p .entries)) n
-seen m (page-bytes-from p i bs) = same-bytes (take (length bs) (drop i (page-bytes (at (work-pages (m .areas)) p)))) bs
+seen m (page-bytes-from p i bs) = same-bytes (take (length bs) (drop i (with-left (left-at (m .areas .work .lefts) p) (page-bytes (at (work-pages (m .areas)) p))))) bs
 seen m (kinds-from n ks) = same-bytes (map (λ r. kind-number (r .kind)) (drop (n - 1) (work-log (m .areas)))) ks
 seen m (previous-from n ps) = same-bytes (map (λ r. r .previous) (drop (n - 1) (work-log (m .areas)))) ps
 seen m (slides es) = same-entries (leaf-records (work-pages (m .areas))) es

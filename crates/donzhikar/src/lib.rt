@@ -205,6 +205,29 @@ pub extern "C" fn donzhikar_next(
     give(desk, values, y)
 }
 
+// Previous: the last slide below a key, its key and its value.
+#[no_mangle]
+pub extern "C" fn donzhikar_previous(
+    wp: &[u8],
+    sp: &[u8],
+    wl: &[u8],
+    sl: &[u8],
+    desk: &mut [u8],
+    values: &mut [u8],
+    batch: u32,
+    key: u32,
+) -> u32
+    ensures { λ r. ⌜ returned r (now (desk .exit)) (now (values .exit)) (at-exit wp sp wl sl) ≡ c-call (calls.previous batch key) (at-entry wp sp wl sl) (now (desk .entry)) (now (values .entry)) ⌝ }
+{
+    let q = asked(desk, values);
+    if !q.ok {
+        return refuse(desk, values, false);
+    }
+    let d = q.desk;
+    let y = call_register::previous(wp, sp, wl, sl, d, batch, key);
+    give(desk, values, y)
+}
+
 // Insert: a slide is filed.
 #[no_mangle]
 pub extern "C" fn donzhikar_insert(

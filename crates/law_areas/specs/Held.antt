@@ -62,12 +62,15 @@ module _ {A : Type 0} {area : List ℕ} (w m : ℕ) (g : A → List ℕ) (z : A)
       ∙ parts-joined w (map g all) (subst (Wide w) (sym (map-append g ys none)) (wide-append w (map g ys) (map g none) wide (wide-blank w g z blank (m - length ys))))
 
   -- READING: what f reads back of each element and of zeros, it reads back of the area.
-  pub holds-read : (f : List ℕ → A) → map f (map g ys) ≡ ys → f (zeros w) ≡ z → map f (parts m w area) ≡ ys ++ replicate (m - length ys) z
-  holds-read f back back-z =
+  -- What is read of each part.
+  pub holds-map : {B : Type 0} (f : List ℕ → B) → map f (parts m w area) ≡ map f (map g ys) ++ replicate (m - length ys) (f (zeros w))
+  holds-map {B} f =
       let k : ℕ = m - length ys in
       ap (map f) (holds-parts ∙ map-append g ys (replicate k z)) ∙ map-append f (map g ys) (map g (replicate k z))
-      ∙ ap₂ (λ (x y : List A). x ++ y) back
-      (ap (map f) (map-same g k z) ∙ map-same f k (g z) ∙ ap (λ (y : A). replicate k y) (ap f blank ∙ back-z))
+      ∙ ap (λ (y : List B). map f (map g ys) ++ y) (ap (map f) (map-same g k z) ∙ map-same f k (g z) ∙ ap (λ (y : B). replicate k y) (ap f blank))
+
+  pub holds-read : (f : List ℕ → A) → map f (map g ys) ≡ ys → f (zeros w) ≡ z → map f (parts m w area) ≡ ys ++ replicate (m - length ys) z
+  holds-read f back back-z = holds-map f ∙ ap₂ (λ (x : List A) (y : A). x ++ replicate (m - length ys) y) back back-z
 
 -- ---- written over
 

@@ -2,6 +2,7 @@ pub mod Typed
 pub mod Parts
 pub mod Held
 pub mod Pages
+pub mod Working
 pub mod Logs
 pub mod Refusal1
 pub mod Lengths
@@ -9,3 +10,4 @@ pub mod Stores
 pub mod Storing
 pub mod Formatting
 pub mod AsPieces
+pub mod WorkPages

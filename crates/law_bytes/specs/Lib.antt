@@ -14,6 +14,8 @@ pub mod Blank
 pub mod PageKinds
 pub mod Marks
 pub mod PageBytes
+pub mod LeftLinks
+pub mod LeftFields
 pub mod PageAreas
 pub mod RecordBytes
 pub mod LogAreas

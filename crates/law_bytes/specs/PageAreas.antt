@@ -1,10 +1,11 @@
 -- An area of pages: its typed pages, its blocks, and the bytes of either.
-use mathlib.Core.Path.{_≡_}
+use mathlib.Core.Path.{_≡_, refl}
 use Prim.Native.Nat.{ℕ, _*_, _<_}
+use mathlib.Core.Bool.{Bool, true, false}
 use mathlib.Core.List.{List}
 use lib.ListN.{set, length}
 use Rattle.def_layout.specs.Pages.{Page}
-use Rattle.def_layout.specs.PageBytes.{page-bytes, page-fields, Block, read-block, block-bytes}
+use Rattle.def_layout.specs.PageBytes.{page-bytes, page-fields, Block, read-block, block-bytes, left-in, without-left}
 use Rattle.def_layout.specs.Sizes.{page-size}
 use Rattle.law_bytes.specs.Patch.{patch}
 use Rattle.law_bytes.specs.Pieces.{read-all, write-all, All, all-map, read-write-all, write-read-all, write-all-length, write-all-set}
@@ -15,6 +16,21 @@ pages-of n s = read-all page-size page-fields n s
 
 abbrev pub blocks-of : ℕ → List ℕ → List Block
 blocks-of n s = read-all page-size read-block n s
+
+-- The bytes of a page that are judged: of a working one those without its left link (02, U5). The blocks of either kind of area, and the links.
+unfoldable pub judged : (working : Bool) → List ℕ → List ℕ
+judged true b = without-left b
+judged false b = b
+
+abbrev pub blocks-by : (working : Bool) → ℕ → List ℕ → List Block
+blocks-by working n s = read-all page-size (λ b. read-block (judged working b)) n s
+
+pub stable-blocks : (n : ℕ) (s : List ℕ) → blocks-by false n s ≡ blocks-of n s
+unfolding judged
+stable-blocks n s = refl
+
+abbrev pub lefts-of : ℕ → List ℕ → List ℕ
+lefts-of n s = read-all page-size left-in n s
 
 abbrev pub pages-bytes : List Page → List ℕ
 pages-bytes xs = write-all page-bytes xs

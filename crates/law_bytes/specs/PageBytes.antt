@@ -45,7 +45,7 @@ unfolding page-bytes
 page-bytes-length x = length-append (page-front x) (page-body (x .kind) x) ∙ omega (arith, page-front-length x, page-body-length (x .kind) x)
 
 -- The four words of the front, each at its place.
-front-word-lt : (x : Page) → front-word x < 2 ^ 32
+pub front-word-lt : (x : Page) → front-word x < 2 ^ 32
 front-word-lt x =
     omega (arith, kind-lt (x .kind), mod-lt (x .level) {m = 16} (lit< tt), mod-lt (length (x .entries)) {m = 16} (lit< tt), mod-lt (x .right) {m = 1024} (lit< tt))
 
@@ -173,3 +173,14 @@ block-bytes-back b = go (case (same-bytes (page-bytes (page-fields b)) b))
     go : Case (same-bytes (page-bytes (page-fields b)) b) → block-bytes (block-by (same-bytes (page-bytes (page-fields b)) b) b) ≡ b
     go (yes! e) = rw e (by true e)
     go (no! e) = rw e (by false e)
+
+-- A page that keeps its widths has at most 14 entries.
+body-count : (k : PageKind) (y : Page) → BodyFits k y → length (y .entries) ≤ 14
+unfolding BodyFits
+body-count free y b = b .count
+body-count leaf y b = b .count
+body-count index y b = b .count
+body-count storage-map y b = omega (arith, ap length (b .entries))
+
+pub fits-count : (y : Page) → Fits y → length (y .entries) ≤ 14
+fits-count y h = body-count (y .kind) y (h .body)

@@ -1,11 +1,11 @@
 -- A part of an area that is written over: the one form in which every store is said.
-use mathlib.Core.Path.{_≡_, ap, ap₂, sym, _∙_}
+use mathlib.Core.Path.{_≡_, refl, ap, ap₂, sym, _∙_}
 use Prim.Native.Nat.{ℕ, zero, suc, _+_, _-_, _≤_, _<_}
 use native.Mathlib.Nat.{add-assoc, suc-add}
 use native.Mathlib.Numerals.{towards-suc, add-one}
 use native.Mathlib.Omega.{arith}
 use mathlib.Core.List.{List, [], _∷_, _++_, append-assoc, append-nil}
-use lib.ListN.{getD, take, drop, set, length, replicate, length-append, length-drop, length-replicate, replicate-append-replicate, drop-of-length-le}
+use lib.ListN.{getD, take, drop, set, length, replicate, length-append, length-drop, take-append-drop, length-replicate, replicate-append-replicate, drop-of-length-le}
 use lib.Seq.{sets-eq, set-at, take-at, take-suc, take-all, drop-cons, drop-append-add, drop-append-le, take-append-le, drop-drop, take-take, take-nil, length-take-le, drop-length}
 use Rattle.law_bytes.specs.Words.{part}
 
@@ -24,7 +24,7 @@ stores4 s i a b c d h = simp towards-suc (simp towards-suc at (sets-eq (a ∷ b 
 
 pub patch-length : (s : List ℕ) (i : ℕ) (w : List ℕ) → i + length w ≤ length s → length (patch s i w) ≡ length s
 unfolding patch
-patch-length s i w h = simp (length-append, length-drop, length-take-le i s (omega arith)) (omega arith)
+patch-length s i w h = simp (length-append, length-drop, take-append-drop, length-take-le i s (omega arith)) (omega arith)
 
 -- A list that is written from the front: p is written, and the rest is b.
 pub patch-front : (p b : List ℕ) (n : ℕ) (w : List ℕ) → length p ≡ n → patch (p ++ drop n b) n w ≡ p ++ w ++ drop (n + length w) b
@@ -74,7 +74,7 @@ take-patch s w m a h =
     ∙ take-append-le m (take (m + a) s) (w ++ drop (m + a + length w) s) (omega arith)
     ∙ take-take m (m + a) s (omega arith)
 
-drop-take : {A : Type 0} (n m : ℕ) (s : List A) → drop n (take (n + m) s) ≡ take m (drop n s)
+pub drop-take : {A : Type 0} (n m : ℕ) (s : List A) → drop n (take (n + m) s) ≡ take m (drop n s)
 drop-take zero m s = let e : 0 + m ≡ m = omega arith in ap (λ (k : ℕ). take k s) e
 drop-take (suc n) m [] = rw suc-add (sym (take-nil m))
 drop-take (suc n) m (x ∷ s) = rw suc-add (drop-take n m s)
@@ -107,3 +107,13 @@ zero-step s d i h e =
 
 pub zero-end : (s d : List ℕ) (i : ℕ) → i ≡ length s → d ≡ replicate i 0 ++ drop i s → d ≡ replicate (length s) 0
 zero-end s d i h e = e ∙ rw h (ap (λ (r : List ℕ). replicate (length s) 0 ++ r) (drop-length s) ∙ append-nil (replicate (length s) 0))
+
+-- What is written as it stood makes no difference.
+pub patch-more : (s : List ℕ) (a : ℕ) (w z : List ℕ) → take (length z) (drop (a + length w) s) ≡ z → patch s a (w ++ z) ≡ patch s a w
+unfolding patch
+patch-more s a w z e =
+    let k : a + length (w ++ z) ≡ a + length w + length z = omega (arith, length-append w z) in
+    ap (λ (i : ℕ). take a s ++ (w ++ z) ++ drop i s) k
+    ∙ ap (λ (r : List ℕ). r ++ drop (a + length w + length z) s) (sym (append-assoc (take a s) w z))
+    ∙ append-assoc (take a s ++ w) z (drop (a + length w + length z) s)
+    ∙ ap (λ (r : List ℕ). take a s ++ w ++ r) (ap₂ (λ (x y : List ℕ). x ++ y) (sym e) (sym (drop-drop (length z) (a + length w) s)) ∙ take-append-drop (length z) (drop (a + length w) s))

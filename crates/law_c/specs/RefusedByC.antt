@@ -14,7 +14,7 @@ use Rattle.def_layout.specs.Sizes.{desk-size}
 use Rattle.def_model.specs.declared.Refusal.the-variants.{Lengths}
 use Rattle.def_model.specs.declared.Answer.the-variants.{Refused}
 use Rattle.def_model.specs.Answers.{answer-numbers}
-use Rattle.def_model.specs.OnBytes.{Call, format, load, begin, restart, fetch, next, insert, delete, commit, abort, write-out, Lent, refused-desk, take-mark, return-to}
+use Rattle.def_model.specs.OnBytes.{Call, format, load, begin, restart, fetch, next, previous, insert, delete, commit, abort, write-out, Lent, refused-desk, take-mark, return-to}
 use Rattle.def_c.specs.FromC.{Returned, values-size, value-bytes, sizes-ok, refused-desk-bytes, refused-values, returned-by, c-call}
 use Rattle.law_bytes.specs.Words.{Bytes}
 use Rattle.law_bytes.specs.DeskBytes.{desk-bytes-back}
@@ -27,6 +27,7 @@ empties begin = false
 empties restart = true
 empties (fetch b k) = false
 empties (next b k) = false
+empties (previous b k) = false
 empties (insert b k v) = false
 empties (delete b k) = false
 empties (commit b) = false
@@ -43,6 +44,7 @@ refused-by begin d = refl
 refused-by restart d = refl
 refused-by (fetch b k) d = refl
 refused-by (next b k) d = refl
+refused-by (previous b k) d = refl
 refused-by (insert b k v) d = refl
 refused-by (delete b k) d = refl
 refused-by (commit b) d = refl

@@ -34,7 +34,7 @@ use Rattle.law_areas.specs.Pages.{fits-past}
 use Rattle.record_apply.specs.declared.Record.{Record}
 use Rattle.record_apply.specs.Pages.{rec}
 use Rattle.record_leaf.specs.Leaves.{Does}
-use Rattle.record_pages.specs.Pages.{Pages, pages-put}
+use Rattle.record_pages.specs.Pages.{Pages, pages-put, bare-bytes}
 use Rattle.record_pages.specs.Records.{Keeps}
 use Rattle.record_redo.specs.Outcomes.{Answers, pair, nothing, none-answers, one-record, in-places, followed-nothing}
 use Rattle.record_redo.specs.Slots.{Tells, is-full, full-record}
@@ -42,7 +42,7 @@ use Rattle.record_redo.specs.Slots.{Tells, is-full, full-record}
 -- DONE, of whatever record stands in slot i and of whatever pages the area shows: every change fits, and so many were applied.
 abbrev pub Done : ℕ → ℕ → List ℕ → List ℕ → ℕ → List ℕ → ℕ → Type 0
 Done n m pages log i after count =
-    (xs : List Page) (own : ℕ) (q : Rec) → Pages n pages xs → getD (slots-of m log) i empty ≡ full own q → Keeps (i + 1) q
+    (xs : List Page) (own : ℕ) (q : Rec) → Pages n pages xs [] → getD (slots-of m log) i empty ≡ full own q → Keeps (i + 1) q
     → Answers n after (record { ok = true; count = count }) (one-record (i + 1) q xs)
 
 -- The i-th part of width w, as it is lent; as it was again; and come back.
@@ -143,9 +143,9 @@ page-part (x ∷ xs) (suc p) h =
     ap (λ (k : ℕ). part (page-bytes x ++ pages-bytes xs) k page-size) e ∙ ap (take page-size) (drop-append-add (page-bytes x) (pages-bytes xs) (page-size * p))
     ∙ page-part xs p (omega arith)
 
-module _ {n : ℕ} {pages : List ℕ} (xs : List Page) (shows : Pages n pages xs) (p : ℕ) (h : p < n) where
+module _ {n : ℕ} {pages : List ℕ} (xs : List Page) (shows : Pages n pages xs []) (p : ℕ) (h : p < n) where
   pub page-stands : part pages (page-size * p) page-size ≡ page-bytes (at xs p)
-  page-stands = ap (λ (b : List ℕ). part b (page-size * p) page-size) (shows .bytes) ∙ page-part xs p (omega (arith, shows .size))
+  page-stands = ap (λ (b : List ℕ). part b (page-size * p) page-size) (bare-bytes xs shows) ∙ page-part xs p (omega (arith, shows .size))
 
   pub lsn-stands : (w : ℕ) → w ≡ be32 (part pages (page-size * p) page-size) 8 → w ≡ at xs p .lsn
   lsn-stands w e = e ∙ ap (λ (b : List ℕ). be32 b 8) page-stands ∙ word-8 (at xs p) (fits-past xs (shows .fits) p .lsn)
@@ -168,7 +168,7 @@ module _ (k : ℕ) (q : Rec) (xs : List Page) (alone : shape (q .kind) ≡ chang
   unfolding fits-role
   fits-is x = ap (λ (r : Role). fits-role q r x) is-as-a
 
-  module _ {n : ℕ} {pages : List ℕ} (shows : Pages n pages xs) where
+  module _ {n : ℕ} {pages : List ℕ} (shows : Pages n pages xs []) where
     -- Its number is not lower.
     pub higher : k ≤ at xs (q .pageA) .lsn → Answers n pages (record { ok = true; count = 0 }) (one-record k q xs)
     unfolding redo-page redo-at
@@ -176,7 +176,7 @@ module _ (k : ℕ) (q : Rec) (xs : List Page) (alone : shape (q .kind) ≡ chang
         let t : is-lower k (q .pageA) xs ≡ false = lt-false (at xs (q .pageA) .lsn) k l in
         let c : redo-page k q (q .pageA) xs ≡ set xs (q .pageA) (at xs (q .pageA)) = rw t in
         subst (Answers n pages (record { ok = true; count = 0 })) (sym one-page)
-        (record { fits = rw t refl; count = λ w. rw t refl; pages = λ w. subst (Pages n pages) (sym (set-getD xs (q .pageA) zero-page) ∙ sym c) shows })
+        (record { fits = rw t refl; count = λ w. rw t refl; pages = λ w. subst (λ (ys : List Page). Pages n pages ys []) (sym (set-getD xs (q .pageA) zero-page) ∙ sym c) shows })
 
     -- It is lower, the page fits, and its bytes are those of the page that the change makes.
     pub made : {after : List ℕ} → q .pageA < n → at xs (q .pageA) .lsn < k → fits-a (q .kind) q (at xs (q .pageA)) ≡ true
@@ -191,7 +191,7 @@ module _ (k : ℕ) (q : Rec) (xs : List Page) (alone : shape (q .kind) ≡ chang
         (record {
           fits = rw t (sym (fits-is x ∙ f));
           count = λ w. rw t refl;
-          pages = λ w. subst (Pages n after) (sym c) (pages-put (q .pageA) (act (q .pageA) k q x) h (e ∙ ap (λ (y : Page). patch pages (page-size * q .pageA) (page-bytes y)) (sym (act-is x))) xs shows (keeps (q .pageA) x (fits-past xs (shows .fits) (q .pageA))));
+          pages = λ w. subst (λ (ys : List Page). Pages n after ys []) (sym c) (pages-put (q .pageA) (act (q .pageA) k q x) h (e ∙ ap (λ (y : Page). patch pages (page-size * q .pageA) (page-bytes y)) (sym (act-is x))) xs [] shows (keeps (q .pageA) x (fits-past xs (shows .fits) (q .pageA))));
         })
 
 -- ---- inserts and deletes

@@ -86,7 +86,7 @@ whole-append k (r ∷ l) l′ xs =
 -- Of any pages and any log of so many records that the areas showed at the start: after i turns the first i are done.
 abbrev pub Turned : ℕ → ℕ → ℕ → List ℕ → List ℕ → List ℕ → ℕ → ℕ → Type 0
 Turned n m logged pages log now count i =
-    (xs : List Page) (l : List Rec) → Pages n pages xs → Logged m log l → length l ≡ logged → Answers n now (record { ok = true; count = count }) (whole 1 (take i l) xs)
+    (xs : List Page) (l : List Rec) → Pages n pages xs [] → Logged m log l → length l ≡ logged → Answers n now (record { ok = true; count = count }) (whole 1 (take i l) xs)
 
 pub no-turn : (n m logged : ℕ) (pages log : List ℕ) → Turned n m logged pages log pages 0 0
 unfolding replay redo-count redo-fits
@@ -95,15 +95,15 @@ no-turn n m logged pages log xs l h g e = none-answers xs h
 -- One turn, of whatever record stands in slot i.
 abbrev pub Slot : ℕ → ℕ → List ℕ → List ℕ → ℕ → List ℕ → Redone → Type 0
 Slot n m before area i after d =
-    (xs : List Page) (own : ℕ) (q : Rec) → Pages n before xs → getD (slots-of m area) i empty ≡ full own q → length (q .entries) ≤ 14 → Keeps (i + 1) q
+    (xs : List Page) (own : ℕ) (q : Rec) → Pages n before xs [] → getD (slots-of m area) i empty ≡ full own q → length (q .entries) ≤ 14 → Keeps (i + 1) q
     → Answers n after d (one-record (i + 1) q xs)
 
 -- The long way does it, on pages that are as they were.
 pub long-way : {n : ℕ} {before mid after : List ℕ} (m i : ℕ) (area : List ℕ) (r : Record) (d : Redone) → Tells m area i r → mid ≡ before
-    → ((xs : List Page) → Pages n mid xs → Keeps (i + 1) (rec r) → Answers n after d (one-record (i + 1) (rec r) xs)) → Slot n m before area i after d
+    → ((xs : List Page) → Pages n mid xs [] → Keeps (i + 1) (rec r) → Answers n after d (one-record (i + 1) (rec r) xs)) → Slot n m before area i after d
 long-way {n} {after = after} m i area r d tells same a xs own q shows stands few keeps =
     let e : rec r ≡ q = tells own q stands few in
-    subst (λ (x : Rec). Answers n after d (one-record (i + 1) x xs)) e (a xs (subst (λ (b : List ℕ). Pages n b xs) (sym same) shows) (subst (Keeps (i + 1)) (sym e) keeps))
+    subst (λ (x : Rec). Answers n after d (one-record (i + 1) x xs)) e (a xs (subst (λ (b : List ℕ). Pages n b xs []) (sym same) shows) (subst (Keeps (i + 1)) (sym e) keeps))
 
 module _ {n m : ℕ} {area before after : List ℕ} (i count : ℕ) (d : Redone) (turn : Slot n m before area i after d) where
   module _ (xs : List Page) (l : List Rec) (g : Logged m area l) (h : i < length l)

@@ -39,7 +39,7 @@ whole k l xs = record { fits = redo-fits k l xs; count = redo-count k l xs; page
 pub record Answers (n : ℕ) (area : List ℕ) (d : Redone) (o : Outcome) : Type 0 where
   pub fits : d .ok ≡ o .fits
   pub count : d .ok ≡ true → d .count ≡ o .count
-  pub pages : d .ok ≡ true → Pages n area (o .pages)
+  pub pages : d .ok ≡ true → Pages n area (o .pages) []
 
 -- Where a change does not fit.
 pub misfit-answers : {n : ℕ} {area : List ℕ} (d : Redone) (o : Outcome) → d .ok ≡ false → o .fits ≡ false → Answers n area d o
@@ -76,7 +76,7 @@ pub nothing-followed : (xs : List Page) (a : Outcome) → followed (nothing xs) 
 nothing-followed xs a = ap (λ (n : ℕ). record { fits = a .fits; count = n; pages = a .pages }) (zero-add (a .count))
 
 -- The program's answer to that.
-pub none-answers : {n : ℕ} {area : List ℕ} (xs : List Page) → Pages n area xs → Answers n area (record { ok = true; count = 0 }) (nothing xs)
+pub none-answers : {n : ℕ} {area : List ℕ} (xs : List Page) → Pages n area xs [] → Answers n area (record { ok = true; count = 0 }) (nothing xs)
 none-answers xs h = record { fits = refl; count = λ w. refl; pages = λ w. h }
 
 -- ---- the program's answer after what was done so far

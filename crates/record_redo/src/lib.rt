@@ -18,7 +18,7 @@ use record_pages::page_at;
 use record_pages::put_page;
 ghost use mathlib.Core.Path.{_≡_};
 ghost use mathlib.Core.Bool.{true, false};
-ghost use mathlib.Core.List.{List};
+ghost use mathlib.Core.List.{List, []};
 ghost use Prim.Native.Nat.{_+_, _*_, _/_, _%_, _≤_, _<_};
 ghost use lib.ListN.{length};
 ghost use Rattle.def_layout.specs.Sizes.{room, slot-size};
@@ -109,7 +109,7 @@ pub fn record_at(log: &[u8], m: usize, i: usize) -> Record
 // Record r, number k, at page p. A page whose number is lower must fit: one that does not is left as it is.
 pub fn redo_checked(pages: &mut [u8], n: usize, r: Record, k: u32, p: u32) -> Redone
     requires { ⌜ HasPages n (now pages) × (r .count ≤ room) ⌝ }
-    ensures { λ d. ⌜ (d .count ≤ 1) × (d .ok ≡ false → now (pages .exit) ≡ now (pages .entry)) × ((xs : List layout.Page) → Pages n (now (pages .entry)) xs → Keeps k (rec r) → Answers n (now (pages .exit)) d (pair k (rec r) p xs)) ⌝ }
+    ensures { λ d. ⌜ (d .count ≤ 1) × (d .ok ≡ false → now (pages .exit) ≡ now (pages .entry)) × ((xs : List layout.Page) → Pages n (now (pages .entry)) xs [] → Keeps k (rec r) → Answers n (now (pages .exit)) d (pair k (rec r) p xs)) ⌝ }
 {
     let x = page_at(pages, n, p);
     if x.lsn >= k {
@@ -158,7 +158,7 @@ fn redo_part(
 // Record r, number k, at the pages that it changes, up to the first that does not fit: A, then B or C, then the map.
 pub fn redo_places(pages: &mut [u8], n: usize, r: Record, k: u32) -> Redone
     requires { ⌜ HasPages n (now pages) × (r .count ≤ room) ⌝ }
-    ensures { λ d. ⌜ (d .count ≤ 4) × ((xs : List layout.Page) → Pages n (now (pages .entry)) xs → Keeps k (rec r) → Answers n (now (pages .exit)) d (one-record k (rec r) xs)) ⌝ }
+    ensures { λ d. ⌜ (d .count ≤ 4) × ((xs : List layout.Page) → Pages n (now (pages .entry)) xs [] → Keeps k (rec r) → Answers n (now (pages .exit)) d (one-record k (rec r) xs)) ⌝ }
 {
     let bits = parts(r.kind);
     let none = Redone { ok: true, count: 0 };
@@ -272,7 +272,7 @@ pub fn redo_log(
 ) -> Redone
     requires { ⌜ HasAreas n m (now pages) (now log) × HasSlots m (now to) × (logged ≤ m) ⌝ }
     ensures { λ d.
-        ⌜ (d .count ≤ 4 * logged) × ((xs : List layout.Page) (l : List Rec) → Pages n (now (pages .entry)) xs → Logged m (now (log .entry)) l → length l ≡ logged → Answers n (now (pages .exit)) d (whole 1 l xs)) × (d .ok ≡ true → now (to .exit) ≡ now (log .entry)) ⌝ }
+        ⌜ (d .count ≤ 4 * logged) × ((xs : List layout.Page) (l : List Rec) → Pages n (now (pages .entry)) xs [] → Logged m (now (log .entry)) l → length l ≡ logged → Answers n (now (pages .exit)) d (whole 1 l xs)) × (d .ok ≡ true → now (to .exit) ≡ now (log .entry)) ⌝ }
 {
     let mut count: u32 = 0;
     let mut i: u32 = 0;

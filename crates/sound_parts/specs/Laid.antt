@@ -130,11 +130,11 @@ module _ (b : List ℕ) (w : Bytes b) where
 
 -- A block that keeps the layout is the page that its bytes show.
 pub record LaidPage (b : List ℕ) : Type 0 where
-  block : read-block b ≡ page (page-fields b)
+  pub block : read-block b ≡ page (page-fields b)
   pub bytes : b ≡ page-bytes (page-fields b)
   pub fits : Fits (page-fields b)
 
-laid-page : (n p : ℕ) (b : List ℕ) → block-ok n p (read-block b) ≡ true → LaidPage b
+pub laid-page : (n p : ℕ) (b : List ℕ) → block-ok n p (read-block b) ≡ true → LaidPage b
 unfolding read-block block-by block-ok
 laid-page n p b l = go (case (same-bytes (page-bytes (page-fields b)) b)) l
   where
@@ -158,7 +158,7 @@ pub record Laid (n : ℕ) (area : List ℕ) : Type 0 where
   pub fits : AllPagesFit (pages-of n area)
   pub size : length (pages-of n area) ≡ n
 
-all-fit : (xs : List Page) → All Fits xs → AllPagesFit xs
+pub all-fit : (xs : List Page) → All Fits xs → AllPagesFit xs
 unfolding All
 all-fit [] f p h = absurd (omega arith)
 all-fit (x ∷ xs) f zero h = f .0

@@ -16,7 +16,7 @@ use Rattle.def_model.specs.Sound.{numbers-ok}
 use Rattle.law_bytes.specs.Words.{part, be32-take, be32-drop}
 use Rattle.law_bytes.specs.Pieces.{read-all, read-all-length, read-all-at}
 use Rattle.def_model.specs.Areas.{block-ok, blocks-ok}
-use Rattle.law_bytes.specs.PageAreas.{blocks-of, pages-of}
+use Rattle.law_bytes.specs.PageAreas.{judged, blocks-by, pages-of}
 
 -- The pages from p on are page p and those after it.
 from-page : {A : Type 0} (f : List ℕ → A) (d : A) (n p : ℕ) (b : List ℕ) → p < n
@@ -31,20 +31,20 @@ none-from f n p b h = drop-of-length-le (read-all page-size f n b) {i = p} (omeg
 
 -- ---- layouts
 
-module _ (n p : ℕ) (b : List ℕ) {t : Bool} (e : t ≡ block-ok n p (read-block (part b (page-size * p) page-size))) (h : p < n) where
-  pub laid-out : t ≡ true → blocks-ok n p (drop p (blocks-of n b)) ≡ blocks-ok n (p + 1) (drop (p + 1) (blocks-of n b))
+module _ (w : Bool) (n p : ℕ) (b : List ℕ) {t : Bool} (e : t ≡ block-ok n p (read-block (judged w (part b (page-size * p) page-size)))) (h : p < n) where
+  pub laid-out : t ≡ true → blocks-ok n p (drop p (blocks-by w n b)) ≡ blocks-ok n (p + 1) (drop (p + 1) (blocks-by w n b))
   unfolding blocks-ok
   laid-out k =
-      rw (from-page read-block (page zero-page) n p b h, blocks-ok, ← e, k, add-one p)
+      rw (from-page (λ (x : List ℕ). read-block (judged w x)) (page zero-page) n p b h, blocks-ok, ← e, k, add-one p)
 
-  pub breaks : t ≡ false → blocks-ok n p (drop p (blocks-of n b)) ≡ false
+  pub breaks : t ≡ false → blocks-ok n p (drop p (blocks-by w n b)) ≡ false
   unfolding blocks-ok
   breaks k =
-      rw (from-page read-block (page zero-page) n p b h, blocks-ok, ← e, k)
+      rw (from-page (λ (x : List ℕ). read-block (judged w x)) (page zero-page) n p b h, blocks-ok, ← e, k)
 
-pub laid-none : (n p : ℕ) (b : List ℕ) → n ≤ p → blocks-ok n p (drop p (blocks-of n b)) ≡ true
+pub laid-none : (w : Bool) (n p : ℕ) (b : List ℕ) → n ≤ p → blocks-ok n p (drop p (blocks-by w n b)) ≡ true
 unfolding blocks-ok
-laid-none n p b h = rw (none-from read-block n p b h)
+laid-none w n p b h = rw (none-from (λ (x : List ℕ). read-block (judged w x)) n p b h)
 
 -- ---- log numbers
 

@@ -25,29 +25,29 @@ ghost use Rattle.def_model.specs.Sound.{numbers-ok};
 ghost use Rattle.def_model.specs.TreeRules.{free-pages};
 ghost use Rattle.law_bytes.specs.AreaSizes.{HasPages, HasSlots};
 ghost use Rattle.law_bytes.specs.Words.{part};
-ghost use Rattle.law_bytes.specs.PageAreas.{blocks-of, pages-of};
+ghost use Rattle.law_bytes.specs.PageAreas.{judged, blocks-by, pages-of};
 ghost use Rattle.def_model.specs.Areas.{block-ok};
 ghost use Rattle.law_bytes.specs.LogAreas.{slots-of};
 ghost use Rattle.sound_parts.specs.Stored.{stored-is};
 ghost use Rattle.sound_parts.specs.Desks.{desk-with};
 ghost use Rattle.sound_parts.specs.Reserves.{reserves-by, update-slots-by, update-pages-by, begin-slots-by};
 
-fn page_at_ok(pages: &[u8], n: usize, p: usize) -> bool
+fn page_at_ok(pages: &[u8], n: usize, p: usize, working: bool) -> bool
     requires { ⌜ HasPages n (now pages) × (p < n) ⌝ }
-    ensures { λ r. ⌜ r ≡ block-ok n p (read-block (part (now (pages .entry)) (page-size * p) page-size)) ⌝ }
+    ensures { λ r. ⌜ r ≡ block-ok n p (read-block (judged working (part (now (pages .entry)) (page-size * p) page-size))) ⌝ }
 {
     let a = PAGE_SIZE * p;
-    page_ok(&pages[a..a + PAGE_SIZE], n, p)
+    page_ok(&pages[a..a + PAGE_SIZE], n, p, working)
 }
 
-// Refusal 3 finds nothing in the n pages.
-pub fn layouts_ok(pages: &[u8], n: usize) -> bool
+// Refusal 3 finds nothing in the n pages, stable or working ones.
+pub fn layouts_ok(pages: &[u8], n: usize, working: bool) -> bool
     requires { ⌜ HasPages n (now pages) ⌝ }
-    ensures { λ r. ⌜ r ≡ blocks-ok n 0 (blocks-of n (now (pages .entry))) ⌝ }
+    ensures { λ r. ⌜ r ≡ blocks-ok n 0 (blocks-by working n (now (pages .entry))) ⌝ }
 {
     let mut p = 0;
     while p < n {
-        if !page_at_ok(pages, n, p) {
+        if !page_at_ok(pages, n, p, working) {
             return false;
         }
         p += 1;

@@ -128,3 +128,13 @@ module _ (k m : ℕ) (b : List ℕ) (from count : ℕ) where
       newest-further e =
           walk-on Plain (newest k) m b from count at left w z x t
           (λ i l ls y ys q rd n h o. rw (neq-false (λ (d : k ≡ y .key). e (same-key y ys (o .shown) ∙ sym d))))
+
+pub below : (low last : ℕ) → from-to low last ≡ (λ key. leb low key && ltb key (last + 1))
+below low last = fun-ext same
+  where
+    same : (key : ℕ) → from-to low last key ≡ leb low key && ltb key (last + 1)
+    same key =
+        elim (decLt last key) [
+          | yes h ↦ rw (le-false key last h, lt-false key (last + 1) (omega arith))
+          | no h ↦ rw (le-true key last (omega arith), lt-true key (last + 1) (omega arith))
+        ]

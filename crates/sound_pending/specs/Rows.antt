@@ -8,8 +8,8 @@ use native.Mathlib.Numerals.{add-one}
 use native.Mathlib.Decide.{decLt}
 use lib.ListN.{length, getD, take, drop, drop-of-length-le, List·getD-eq-default}
 use lib.Seq.{take-length, drop-cons}
-use lib.Dec.{eqb}
-use Rattle.def_base.specs.Tests.{any, every, eq-true, neq-false}
+use lib.Dec.{eqb, leb, ltb}
+use Rattle.def_base.specs.Tests.{any, every, eq-true, neq-false, lt-false}
 use Rattle.def_layout.specs.declared.Row.{Row}
 use Rattle.def_layout.specs.Desks.{no-row, row-at, eight-rows}
 use Rattle.def_layout.specs.Records.{Rec}
@@ -19,8 +19,8 @@ use Rattle.law_bytes.specs.Tables.{getD-tab}
 use Rattle.log_pending.specs.Below.{Linked}
 use Rattle.log_pending.specs.Holding.{Sits, Holds}
 use Rattle.log_pending.specs.Reading.{Reads}
-use Rattle.def_model.specs.Pending.{holds, held, held-between}
-use Rattle.sound_pending.specs.Keys.{KeysSay, from-to, exactly, above}
+use Rattle.def_model.specs.Pending.{holds, held, held-between, held-from}
+use Rattle.sound_pending.specs.Keys.{KeysSay, from-to, exactly, above, below}
 
 -- What a call knows of the log in its area, and of the rows on its desk.
 pub record Known (m : ℕ) (b : List ℕ) (rs : List Row) (l : List Rec) (bs : List Batch) : Type 0 where
@@ -142,6 +142,26 @@ HeldIs m b rows n k r = (l : List Rec) (bs : List Batch) → Known m b rows l bs
 abbrev pub HeldBetweenIs : ℕ → List ℕ → List Row → ℕ → ℕ → ℕ → Bool → Type 0
 HeldBetweenIs m b rows n low high r = (l : List Rec) (bs : List Batch) → Known m b rows l bs → r ≡ held-between n low high bs
 
+abbrev pub HeldFromIs : ℕ → List ℕ → List Row → ℕ → ℕ → ℕ → Bool → Type 0
+HeldFromIs m b rows n low high r = (l : List Rec) (bs : List Batch) → Known m b rows l bs → r ≡ held-from n low high bs
+
+never : (b : Bool) → b && false ≡ false
+never true = refl
+never false = refl
+
+-- None is below 0.
+pub held-from-none : (m : ℕ) (b : List ℕ) (rows : List Row) (n low high : ℕ) → high ≡ 0 → HeldFromIs m b rows n low high false
+unfolding held-from any
+held-from-none m b rows n low high z l bs q = sym (ap (λ (h : ℕ). held-from n low h bs) z ∙ others bs)
+  where
+    lines : (ls : List Line) → any (λ x. leb low (x .key) && ltb (x .key) 0) ls ≡ false
+    lines [] = refl
+    lines (x ∷ ls) = rw (lt-false (x .key) 0 (omega arith), never (leb low (x .key))) (lines ls)
+
+    others : (bs : List Batch) → held-from n low 0 bs ≡ false
+    others [] = refl
+    others (x ∷ bs) = rw (lines (x .lines), never (not (eqb n (x .number)))) (others bs)
+
 module _ (m : ℕ) (b : List ℕ) (rows : List Row) (n : ℕ) (r : Bool) where
   pub held-is : (k : ℕ) → DeskKeys (from-to k k) m b rows n r → HeldIs m b rows n k r
   unfolding held holds
@@ -150,3 +170,7 @@ module _ (m : ℕ) (b : List ℕ) (rows : List Row) (n : ℕ) (r : Bool) where
   pub held-between-is : (low high : ℕ) → DeskKeys (from-to (low + 1) high) m b rows n r → HeldBetweenIs m b rows n low high r
   unfolding held-between
   held-between-is low high w l bs q = w l bs q ∙ ap (λ (g : ℕ → Bool). any (others-key g n) bs) (above low high)
+
+  pub held-from-is : (low high last : ℕ) → high ≡ last + 1 → DeskKeys (from-to low last) m b rows n r → HeldFromIs m b rows n low high r
+  unfolding held-from
+  held-from-is low high last e w l bs q = w l bs q ∙ ap (λ (g : ℕ → Bool). any (others-key g n) bs) (below low last ∙ (λ i key. leb low key && ltb key (sym e i)))

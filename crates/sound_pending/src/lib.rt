@@ -10,7 +10,7 @@ ghost use Prim.Native.Nat.{_<_};
 ghost use lib.Dec.{eqb};
 ghost use Rattle.law_bytes.specs.AreaSizes.{HasPages, HasSlots, HasAreas};
 ghost use Rattle.sound_pending.specs.Keys.{from-to, KeysSay, NewestSays};
-ghost use Rattle.sound_pending.specs.Rows.{RowKeys, DeskKeys, HeldIs, HeldBetweenIs};
+ghost use Rattle.sound_pending.specs.Rows.{RowKeys, DeskKeys, HeldIs, HeldBetweenIs, HeldFromIs};
 ghost use Rattle.sound_pending.specs.Alternating.{Alternates, AlternateSays};
 ghost use Rattle.sound_pending.specs.Apart.{FreeSays, ApartIs};
 ghost use Rattle.law_bytes.specs.PageAreas.{pages-of};
@@ -116,6 +116,17 @@ pub fn held_between(log: &[u8], m: usize, d: Desk, n: u32, low: u32, high: u32) 
     ensures { λ r. ⌜ HeldBetweenIs m (now (log .entry)) (d .rows) n low high r ⌝ }
 {
     held_within(log, m, d, n, low as u64 + 1, high)
+}
+
+// Another batch holds a key from `low` on, below `high`.
+pub fn held_from(log: &[u8], m: usize, d: Desk, n: u32, low: u32, high: u32) -> bool
+    requires { ⌜ HasSlots m (now log) ⌝ }
+    ensures { λ r. ⌜ HeldFromIs m (now (log .entry)) (d .rows) n low high r ⌝ }
+{
+    if high == 0 {
+        return false;
+    }
+    held_within(log, m, d, n, low as u64, high - 1)
 }
 
 // A line and the newest below it on its key, if there is one.

@@ -18,11 +18,12 @@ use Rattle.def_model.specs.Log.{records-of, slots-ok, log-area}
 use Rattle.def_model.specs.Batches.{open-batches, chain-ok, row-of, desk-of, pending-count}
 use Rattle.def_model.specs.Pending.{pending-ok}
 use Rattle.def_model.specs.TreeRules.{tree-ok, free-pages}
+use Rattle.def_model.specs.Links.{lefts-ok}
 use Rattle.def_model.specs.Sound.{numbers-ok, reserves-ok, same-slots, sound}
 use Rattle.def_model.specs.Calls.{run-of}
-use Rattle.def_model.specs.OnBytes.{read-areas}
+use Rattle.def_model.specs.OnBytes.{read-areas, read-lefts}
 use Rattle.law_bytes.specs.Words.{Bytes}
-use Rattle.law_bytes.specs.PageAreas.{blocks-of, pages-of}
+use Rattle.law_bytes.specs.PageAreas.{blocks-by, pages-of, lefts-of}
 use Rattle.law_bytes.specs.LogAreas.{slots-of}
 use Rattle.law_bytes.specs.DeskRows.{place-of, LowRows}
 use Rattle.log_pending.specs.Reading.{reads-few}
@@ -35,42 +36,42 @@ use Rattle.law_areas.specs.Logs.{HoldsLog, read-log-length}
 use Rattle.area_lengths.specs.Lent.{lent}
 use Rattle.record_pages.specs.Pages.{Pages}
 use Rattle.tree_write.specs.Shows.{Shows}
-use Rattle.sound_parts.specs.Laid.{Laid, laid-pages}
+use Rattle.sound_parts.specs.LaidWork.{LaidWork, laid-work}
 use Rattle.sound_parts.specs.Desks.{desk-with}
 use Rattle.sound_parts.specs.Stored.{stored-is}
 use Rattle.sound_parts.specs.Reserves.{reserves-by, reserves-are}
 use Rattle.sound_register.specs.declared.Standing.{Standing}
 use Rattle.sound_register.specs.Logs.{log-shown, area-is, area-fits, area-holds-log, holds-first}
 use Rattle.law_bytes.specs.DeskSame.{desk-same}
-use Rattle.sound_register.specs.Parts.{parts-of, pages-read, sound-is, without-layouts, without-log, without-numbers, without-tree, without-desk, without-stored, without-reserves, without-pending, all-nine}
+use Rattle.sound_register.specs.Parts.{parts-of, work-read, lefts-read, sound-is, without-layouts, without-log, without-numbers, without-tree, without-desk, without-stored, without-reserves, without-pending, all-ten}
 use Rattle.sound_register.specs.Reserved.{Reserved}
-use Rattle.sound_register.specs.Standing.{pages-in, log-in, Known, Stands, stands-not}
+use Rattle.sound_register.specs.Standing.{pages-in, log-in, linked-ok, Known, Stands, stands-not}
 
 -- What the comparison of the two logs says, of whatever log the working area shows.
 abbrev StoredSays : ℕ → List ℕ → List ℕ → ℕ → ℕ → Bool → Type 0
 StoredSays m wl sl logged stored t = (l : List Rec) → length l ≡ logged → slots-of m wl ≡ log-area m l → t ≡ stored-is m (slots-of m sl) l stored
 
 module _ (n m : ℕ) (wp wl sl : List ℕ) (d : Desk) (of-pages : length wp ≡ page-size * n) (of-log : length wl ≡ slot-size * m) (of-stable : length sl ≡ slot-size * m) where
-  abbrev by-parts : (sp : List ℕ) → sound (read-areas (lent wp sp wl sl)) d ≡ parts-of n m (blocks-of n wp) (areas.pages-of (blocks-of n wp)) (slots-of m wl) (slots-of m sl) d
+  abbrev by-parts : (sp : List ℕ) → sound (read-areas (lent wp sp wl sl)) d ≡ parts-of n m (blocks-by true n wp) (areas.pages-of (blocks-by true n wp)) (lefts-of n wp) (slots-of m wl) (slots-of m sl) d
   by-parts sp = sound-is n m wp wl sl d of-pages of-log of-stable sp
 
   -- ---- a part that fails
 
   module _ (r : Standing) (off : r .ok ≡ false) where
-    fails : parts-of n m (blocks-of n wp) (areas.pages-of (blocks-of n wp)) (slots-of m wl) (slots-of m sl) d ≡ false → Stands n m wp wl sl d r
+    fails : parts-of n m (blocks-by true n wp) (areas.pages-of (blocks-by true n wp)) (lefts-of n wp) (slots-of m wl) (slots-of m sl) d ≡ false → Stands n m wp wl sl d r
     fails e = stands-not n m wp wl sl d r off (λ sp. by-parts sp ∙ e)
 
-    pub pages-broken : {t : Bool} → t ≡ blocks-ok n 0 (blocks-of n wp) → t ≡ false → Stands n m wp wl sl d r
-    pages-broken et e = fails (without-layouts _ _ _ _ _ _ _ _ _ (sym et ∙ e))
+    pub pages-broken : {t : Bool} → t ≡ blocks-ok n 0 (blocks-by true n wp) → t ≡ false → Stands n m wp wl sl d r
+    pages-broken et e = fails (without-layouts _ _ _ _ _ _ _ _ _ _ (sym et ∙ e))
 
     pub log-broken : (j : Said) → Judgement n (slots-of m wl) j → j .ok ≡ false → Stands n m wp wl sl d r
-    log-broken j h e = fails (without-log _ _ _ _ _ _ _ _ _ (sym (h .ok) ∙ e))
+    log-broken j h e = fails (without-log _ _ _ _ _ _ _ _ _ _ (sym (h .ok) ∙ e))
 
   -- ---- after the layouts and the log
 
-  module _ (laid : blocks-ok n 0 (blocks-of n wp) ≡ true) (j : Said) (judged : Judgement n (slots-of m wl) j) (right : j .ok ≡ true) where
-    area : Laid n wp
-    area = laid-pages n wp laid of-pages
+  module _ (laid : blocks-ok n 0 (blocks-by true n wp) ≡ true) (j : Said) (judged : Judgement n (slots-of m wl) j) (right : j .ok ≡ true) where
+    area : LaidWork n wp
+    area = laid-work n wp laid of-pages
 
     both : (slots-ok n 1 (slots-of m wl) ≡ true) × (chain-ok 1 (records-of (slots-of m wl)) [] ≡ true)
     both = and-true (slots-ok n 1 (slots-of m wl)) (chain-ok 1 (records-of (slots-of m wl)) []) (sym (judged .ok) ∙ right)
@@ -90,11 +91,11 @@ module _ (n m : ℕ) (wp wl sl : List ℕ) (d : Desk) (of-pages : length wp ≡ 
     rows-said = ap (λ (x : Desk). x .rows) (judged .desk right 0)
 
     -- The tests in the definitions' words.
-    numbers-are : {t : Bool} → t ≡ numbers-ok (j .logged) (pages-of n wp) → numbers-ok (length (records-of (slots-of m wl))) (areas.pages-of (blocks-of n wp)) ≡ t
+    numbers-are : {t : Bool} → t ≡ numbers-ok (j .logged) (pages-of n wp) → numbers-ok (length (records-of (slots-of m wl))) (areas.pages-of (blocks-by true n wp)) ≡ t
     numbers-are et = ap₂ numbers-ok (sym log-size) (area .shown) ∙ sym et
 
-    tree-is : {t : Bool} → t ≡ tree-ok (pages-of n wp) → tree-ok (areas.pages-of (blocks-of n wp)) ≡ t
-    tree-is et = ap tree-ok (area .shown) ∙ sym et
+    tree-is : {t : Bool} → t ≡ linked-ok (pages-of n wp) (lefts-of n wp) → linked-ok (areas.pages-of (blocks-by true n wp)) (lefts-of n wp) ≡ t
+    tree-is et = ap (λ (xs : List Page). linked-ok xs (lefts-of n wp)) (area .shown) ∙ sym et
 
     desk-as : {t : Bool} → t ≡ same-desk d (desk-with (j .rows) (j .logged) (d .stored)) → same-desk d (desk-of (records-of (slots-of m wl)) (d .stored)) ≡ t
     desk-as et = ap (same-desk d) (sym said) ∙ sym et
@@ -104,16 +105,16 @@ module _ (n m : ℕ) (wp wl sl : List ℕ) (d : Desk) (of-pages : length wp ≡ 
 
     module _ (r : Standing) (off : r .ok ≡ false) {t : Bool} (e : t ≡ false) where
       pub desk-other : t ≡ same-desk d (desk-with (j .rows) (j .logged) (d .stored)) → Stands n m wp wl sl d r
-      desk-other et = fails r off (without-desk _ _ _ _ _ _ _ _ _ (desk-as et ∙ e))
+      desk-other et = fails r off (without-desk _ _ _ _ _ _ _ _ _ _ (desk-as et ∙ e))
 
       pub numbers-high : t ≡ numbers-ok (j .logged) (pages-of n wp) → Stands n m wp wl sl d r
-      numbers-high et = fails r off (without-numbers _ _ _ _ _ _ _ _ _ (numbers-are et ∙ e))
+      numbers-high et = fails r off (without-numbers _ _ _ _ _ _ _ _ _ _ (numbers-are et ∙ e))
 
       pub stored-other : StoredSays m wl sl (j .logged) (d .stored) t → Stands n m wp wl sl d r
-      stored-other et = fails r off (without-stored _ _ _ _ _ _ _ _ _ (stored-as et ∙ e))
+      stored-other et = fails r off (without-stored _ _ _ _ _ _ _ _ _ _ (stored-as et ∙ e))
 
-      pub tree-broken : t ≡ tree-ok (pages-of n wp) → Stands n m wp wl sl d r
-      tree-broken et = fails r off (without-tree _ _ _ _ _ _ _ _ _ (tree-is et ∙ e))
+      pub tree-broken : t ≡ linked-ok (pages-of n wp) (lefts-of n wp) → Stands n m wp wl sl d r
+      tree-broken et = fails r off (without-tree _ _ _ _ _ _ _ _ _ _ (tree-is et ∙ e))
 
     -- ---- after the desk, which is what the log says
 
@@ -144,30 +145,30 @@ module _ (n m : ℕ) (wp wl sl : List ℕ) (d : Desk) (of-pages : length wp ≡ 
           )
 
       reserves-as : {t : Bool} → t ≡ reserves-by m (free-pages (pages-of n wp)) (d .logged) (total (d .rows)) (place-of 0 (d .rows))
-          → reserves-ok m (areas.pages-of (blocks-of n wp)) (records-of (slots-of m wl)) (open-batches (records-of (slots-of m wl))) ≡ t
+          → reserves-ok m (areas.pages-of (blocks-by true n wp)) (records-of (slots-of m wl)) (open-batches (records-of (slots-of m wl))) ≡ t
       reserves-as et =
           ap (λ (xs : List Page). reserves-ok m xs (records-of (slots-of m wl)) (open-batches (records-of (slots-of m wl)))) (area .shown)
           ∙ reserves-are m (pages-of n wp) (records-of (slots-of m wl)) (open-batches (records-of (slots-of m wl)))
           ∙ sym (et ∙ rw (logged-is, pending-is, used-is))
 
-      rule-is : {t : Bool} → RuleIs (pages-of n wp) m wl (j .rows) t → pending-ok (areas.pages-of (blocks-of n wp)) (open-batches (records-of (slots-of m wl))) ≡ t
+      rule-is : {t : Bool} → RuleIs (pages-of n wp) m wl (j .rows) t → pending-ok (areas.pages-of (blocks-by true n wp)) (open-batches (records-of (slots-of m wl))) ≡ t
       rule-is et =
           ap (λ (xs : List Page). pending-ok xs (open-batches (records-of (slots-of m wl)))) (area .shown)
           ∙ sym (et (records-of (slots-of m wl)) (open-batches (records-of (slots-of m wl))) (record { reads = taken .reads; holds = taken .holds; rows = rows-said }))
 
       pub reserves-short : (ms : List Bool) (s : Standing) → Reserved m (pages-of n wp) d ms s → s .ok ≡ false → Stands n m wp wl sl d s
-      reserves-short ms s h e = fails s e (without-reserves _ _ _ _ _ _ _ _ _ (reserves-as (h .ok) ∙ e))
+      reserves-short ms s h e = fails s e (without-reserves _ _ _ _ _ _ _ _ _ _ (reserves-as (h .ok) ∙ e))
 
       pub rule-broken : (r : Standing) {t : Bool} → r .ok ≡ false → RuleIs (pages-of n wp) m wl (j .rows) t → t ≡ false → Stands n m wp wl sl d r
-      rule-broken r off et e = fails r off (without-pending _ _ _ _ _ _ _ _ _ (rule-is et ∙ e))
+      rule-broken r off et e = fails r off (without-pending _ _ _ _ _ _ _ _ _ _ (rule-is et ∙ e))
 
       -- ---- all parts
 
-      in-pages : Pages n wp (pages-of n wp)
-      in-pages = record { bytes = area .bytes; fits = area .fits; size = area .size }
+      in-pages : Pages n wp (pages-of n wp) (read-lefts wp)
+      in-pages = subst (Pages n wp (pages-of n wp)) (sym (lefts-read n wp of-pages)) (record { bytes = area .bytes; links = area .links; fits = area .fits; size = area .size })
 
       pages-shown : pages-of n wp ≡ pages-in wp
-      pages-shown = sym (ap areas.pages-of (pages-read n wp of-pages) ∙ area .shown)
+      pages-shown = sym (ap areas.pages-of (work-read n wp of-pages) ∙ area .shown)
 
       records-shown : records-of (slots-of m wl) ≡ log-in wl
       records-shown = ap records-of (sym (log-shown m wl of-log))
@@ -177,7 +178,7 @@ module _ (n m : ℕ) (wp wl sl : List ℕ) (d : Desk) (of-pages : length wp ≡ 
       run-shown sp =
           let k : length (log-in wl) ≡ d .logged = ap length (sym records-shown) ∙ sym logged-is in
           record {
-            pages = subst (Pages n wp) pages-shown in-pages;
+            pages = subst (λ (xs : List Page). Pages n wp xs (read-lefts wp)) pages-shown in-pages;
             log = subst (HoldsLog wl) records-shown (area-holds-log n m wl (both .0) of-log);
             size = of-log;
             logged = k;
@@ -218,15 +219,16 @@ module _ (n m : ℕ) (wp wl sl : List ℕ) (d : Desk) (of-pages : length wp ≡ 
         pub all-kept : {numbers stored tree rule : Bool}
             → numbers ≡ numbers-ok (j .logged) (pages-of n wp) → numbers ≡ true
             → StoredSays m wl sl (j .logged) (d .stored) stored → stored ≡ true
-            → tree ≡ tree-ok (pages-of n wp) → tree ≡ true
+            → tree ≡ linked-ok (pages-of n wp) (lefts-of n wp) → tree ≡ true
             → RuleIs (pages-of n wp) m wl (j .rows) rule → rule ≡ true
             → Stands n m wp wl sl d s
         all-kept en n! es s! et t! er r! =
             let stored-on = stored-as es ∙ s! in
+            let both-on = and-true (tree-ok (areas.pages-of (blocks-by true n wp))) (lefts-ok (areas.pages-of (blocks-by true n wp)) (lefts-of n wp)) (tree-is et ∙ t!) in
             record {
               ok = λ sp.
                   on
                   ∙ sym (by-parts sp
-                  ∙ all-nine _ _ _ _ _ _ _ _ _ laid (both .0) (both .1) (numbers-are en ∙ n!) (tree-is et ∙ t!) (rule-is er ∙ r!) (desk-as eu ∙ same) stored-on (reserves-as (held .ok) ∙ on));
+                  ∙ all-ten _ _ _ _ _ _ _ _ _ _ laid (both .0) (both .1) (numbers-are en ∙ n!) (both-on .0) (rule-is er ∙ r!) (desk-as eu ∙ same) stored-on (reserves-as (held .ok) ∙ on) (both-on .1));
               known = λ _. subst₂ (λ (xs : List Page) (l : List Rec). Known n m wp wl sl d s xs l) pages-shown records-shown (known-so stored-on);
             }

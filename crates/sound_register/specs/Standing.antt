@@ -1,7 +1,7 @@
 -- WHERE A REGISTER STANDS: whether it is sound, and what a call knows of one that is.
 use Prim.Native.Nat.{ℕ, _≤_}
 use mathlib.Core.Path.{_≡_, sym, _∙_}
-use mathlib.Core.Bool.{true, false}
+use mathlib.Core.Bool.{Bool, true, false, _&&_}
 use mathlib.Core.List.{List, map}
 use native.Mathlib.Omega.{arith}
 use lib.ListN.{length, take}
@@ -13,10 +13,11 @@ use Rattle.def_layout.specs.Records.{Rec}
 use Rattle.def_model.specs.Areas as areas
 use Rattle.def_model.specs.Log.{records-of}
 use Rattle.def_model.specs.Batches.{open-batches, row-of, desk-of, pending-count}
-use Rattle.def_model.specs.TreeRules.{free-pages}
+use Rattle.def_model.specs.TreeRules.{tree-ok, free-pages}
+use Rattle.def_model.specs.Links.{lefts-ok}
 use Rattle.def_model.specs.Sound.{sound}
 use Rattle.def_model.specs.Calls.{run-of}
-use Rattle.def_model.specs.OnBytes.{read-pages, read-log, read-areas}
+use Rattle.def_model.specs.OnBytes.{read-work, read-lefts, read-log, read-areas}
 use Rattle.law_bytes.specs.DeskRows.{place-of}
 use Rattle.log_pending.specs.Reading.{Reads, reads-few}
 use Rattle.log_pending.specs.Holding.{Holds}
@@ -32,15 +33,19 @@ use Rattle.sound_register.specs.declared.Standing.{Standing}
 
 -- The pages and the log that areas show, as the definitions read them.
 abbrev pub pages-in : List ℕ → List Page
-pages-in wp = areas.pages-of (read-pages wp)
+pages-in wp = areas.pages-of (read-work wp)
 
 abbrev pub log-in : List ℕ → List Rec
 log-in wl = records-of (read-log wl)
 
+-- The tree's rules, and that left and right links agree.
+abbrev pub linked-ok : List Page → List ℕ → Bool
+linked-ok xs ls = tree-ok xs && lefts-ok xs ls
+
 -- KNOWN of a sound register of n pages and m slots that shows these pages and this log.
 pub record Known (n m : ℕ) (wp wl sl : List ℕ) (d : Desk) (r : Standing) (xs : List Page) (l : List Rec) : Type 0 where
   -- The areas.
-  pub pages : Pages n wp xs
+  pub pages : Pages n wp xs (read-lefts wp)
   pub log : HoldsLog wl l
   pub stable : HoldsLog sl (take (d .stored) l)
   pub fits : AllFit 1 l

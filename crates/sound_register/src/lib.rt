@@ -11,6 +11,7 @@ use sound_parts::reserves_ok;
 use sound_parts::stored_ok;
 use sound_pending::pending_ok;
 use tree_check::tree_ok;
+use tree_links::lefts_ok;
 ghost use mathlib.Core.Path.{_≡_};
 ghost use mathlib.Core.Bool.{false};
 ghost use Prim.Native.Nat.{_≤_};
@@ -18,9 +19,9 @@ ghost use Rattle.def_layout.specs.Sizes.{most-slots};
 ghost use Rattle.law_bytes.specs.AreaSizes.{HasPages, HasSlots, HasAreas};
 ghost use Rattle.law_bytes.specs.DeskRows.{LowRows};
 ghost use Rattle.log_judge.specs.Accepted.{total};
-ghost use Rattle.law_bytes.specs.PageAreas.{pages-of};
+ghost use Rattle.law_bytes.specs.PageAreas.{pages-of, lefts-of};
 ghost use Rattle.sound_register.specs.Reserved.{Reserved};
-ghost use Rattle.sound_register.specs.Standing.{Stands};
+ghost use Rattle.sound_register.specs.Standing.{Stands, linked-ok};
 
 // What a call knows of a sound register beside its desk: which of the desk's batches have their abort mark, how many updates are pending, and how
 // many pages are free.
@@ -63,13 +64,24 @@ fn reserved(wp: &[u8], n: usize, m: usize, d: Desk, marked: [bool; 8]) -> Standi
     }
 }
 
+// The rules of the tree, and that left and right links agree.
+fn linked_ok(wp: &[u8], n: usize) -> bool
+    requires { ⌜ HasPages n (now wp) ⌝ }
+    ensures { λ r. ⌜ r ≡ linked-ok (pages-of n (now (wp .entry))) (lefts-of n (now (wp .entry))) ⌝ }
+{
+    if !tree_ok(wp, n) {
+        return false;
+    }
+    lefts_ok(wp, n)
+}
+
 // Whether a register of n pages and m slots and its desk are sound, and what is then known. The reserves stand before the pending rule: they bound
 // the lines that it compares.
 pub fn standing_of(wp: &[u8], wl: &[u8], sl: &[u8], n: usize, m: usize, d: Desk) -> Standing
     requires { ⌜ HasAreas n m (now wp) (now wl) × HasSlots m (now sl) ⌝ }
     ensures { λ r. ⌜ Stands n m (now (wp .entry)) (now (wl .entry)) (now (sl .entry)) d r ⌝ }
 {
-    if !layouts_ok(wp, n) {
+    if !layouts_ok(wp, n, true) {
         return unsound();
     }
     let j = judge_log(wl, m, n);
@@ -86,7 +98,7 @@ pub fn standing_of(wp: &[u8], wl: &[u8], sl: &[u8], n: usize, m: usize, d: Desk)
     if !stored_ok(wl, sl, m, j.logged, d.stored) {
         return unsound();
     }
-    if !tree_ok(wp, n) {
+    if !linked_ok(wp, n) {
         return unsound();
     }
     let marked = j.marked;

@@ -16,6 +16,7 @@ use Rattle.def_model.specs.Answers.{Check, check, first-broken}
 use Rattle.def_model.specs.Sound.{sound, layouts-ok, log-ok, work-pages, work-log, work-slots, work-open, desk-ok, stored-ok, reserves-ok}
 use Rattle.def_model.specs.TreeRules.{tree-ok}
 use Rattle.def_model.specs.Pending.{pending-ok}
+use Rattle.def_model.specs.Links.{lefts-ok}
 use Rattle.def_model.specs.Calls.{is-none}
 
 not-false : (b : Bool) → not b ≡ false → b ≡ true
@@ -44,6 +45,7 @@ pub record Parts (a : Areas) (d : Desk) : Type 0 where
   pub desk : desk-ok a d ≡ true
   pub stored : stored-ok a d ≡ true
   pub reserves : reserves-ok (work-slots a) (work-pages a) (work-log a) (work-open a) ≡ true
+  pub lefts : lefts-ok (work-pages a) (a .work .lefts) ≡ true
 
 pub sound-parts : (a : Areas) (d : Desk) → sound a d ≡ true → Parts a d
 unfolding sound
@@ -53,8 +55,9 @@ sound-parts a d e =
     let (p₃, e₃) = and-true (tree-ok (work-pages a)) _ e₂ in
     let (p₄, e₄) = and-true (pending-ok (work-pages a) (work-open a)) _ e₃ in
     let (p₅, e₅) = and-true (desk-ok a d) _ e₄ in
-    let (p₆, p₇) = and-true (stored-ok a d) (reserves-ok (work-slots a) (work-pages a) (work-log a) (work-open a)) e₅ in
-    record { layouts = p₁; log = p₂; tree = p₃; pending = p₄; desk = p₅; stored = p₆; reserves = p₇ }
+    let (p₆, e₆) = and-true (stored-ok a d) _ e₅ in
+    let (p₇, p₈) = and-true (reserves-ok (work-slots a) (work-pages a) (work-log a) (work-open a)) (lefts-ok (work-pages a) (a .work .lefts)) e₆ in
+    record { layouts = p₁; log = p₂; tree = p₃; pending = p₄; desk = p₅; stored = p₆; reserves = p₇; lefts = p₈ }
 
 -- ---- options
 

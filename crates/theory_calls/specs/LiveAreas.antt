@@ -9,25 +9,36 @@ use lib.Dec.{leb}
 use Rattle.def_base.specs.Tests.{clash, and-true, true-le}
 use Rattle.def_layout.specs.declared.Desk.{Desk}
 use Rattle.def_layout.specs.Numbers.{same-bytes}
+use Rattle.def_layout.specs.Pages.{map-bits}
 use Rattle.def_layout.specs.PageBytes.{page}
 use Rattle.def_layout.specs.Records.{Rec}
 use Rattle.def_layout.specs.RecordBytes.{Slot, empty, full, other, record-bytes}
 use Rattle.def_model.specs.Log.{records-of, slots-from, log-area}
+use Rattle.def_model.specs.Links.{relinked}
+use Rattle.def_model.specs.Update.{Run}
 use Rattle.def_model.specs.Areas.{Side, Areas, pages-of}
 use Rattle.def_model.specs.Sound.{work-pages, work-log, work-slots, same-slot, same-slots, stored-ok}
 use Rattle.def_model.specs.Calls.{run-of, run-side}
 use Rattle.theory_history.specs.Origin.{Origin}
 use Rattle.theory_history.specs.Start.{slides-after, pages-after, length-after}
 use Rattle.theory_history.specs.History.{History, history-now, run-after, core-same, Standing}
+use Rattle.theory_history.specs.Linking.{history-links}
 use Rattle.law_areas.specs.Typed.{pages-back, log-back, log-area-length}
 
--- The working side that holds a log, of n pages and m slots.
+-- The working side that holds a log, of n pages and m slots. Its left links follow from the pages.
 abbrev pub side-after : Origin → ℕ → ℕ → List Rec → Side
-side-after o n m log = record { pages = map page (pages-after o n log); log = log-area m log }
+side-after o n m log = record { pages = map page (pages-after o n log); lefts = relinked (pages-after o n log) []; log = log-area m log }
 
 pub record Holds (o : Origin) (n m : ℕ) (log : List Rec) (s : Side) : Type 0 where
   pub is : s ≡ side-after o n m log
   pub fits : length log ≤ m
+
+-- What a run at the end of its history leaves.
+pub run-left : (o : Origin) (n m : ℕ) → n ≤ map-bits → (s : Run) → s .pages ≡ pages-after o n (s .log) → History o n (s .log) → run-side m s ≡ side-after o n m (s .log)
+unfolding run-side
+run-left o n m most s e x =
+    let l : relinked (s .pages) (s .lefts) ≡ relinked (pages-after o n (s .log)) [] = ap (λ q. relinked q (s .lefts)) e ∙ history-links o n most (s .log) x (s .lefts) [] in
+    λ i. record { pages = map page (e i); lefts = l i; log = log-area m (s .log) }
 
 module _ (o : Origin) (n m : ℕ) (log : List Rec) (a : Areas) (h : Holds o n m log (a .work)) where
   pub live-pages : work-pages a ≡ pages-after o n log
@@ -43,9 +54,9 @@ module _ (o : Origin) (n m : ℕ) (log : List Rec) (a : Areas) (h : Holds o n m 
   live-count = ap (λ s. length (s .pages)) (h .is) ∙ length-map (pages-after o n log) page ∙ length-after o n log
 
   -- The run that a call starts from.
-  pub live-run : run-of a ≡ record { pages = pages-after o n log; log = log; due = suc (length log); room = m - length log; stop = 0 }
+  pub live-run : run-of a ≡ record { pages = pages-after o n log; lefts = relinked (pages-after o n log) []; log = log; due = suc (length log); room = m - length log; stop = 0 }
   unfolding run-of
-  live-run = λ i. record { pages = live-pages i; log = live-log i; due = suc (length (live-log i)); room = live-slots i - length (live-log i); stop = 0 }
+  live-run = λ i. record { pages = live-pages i; lefts = h .is i .lefts; log = live-log i; due = suc (length (live-log i)); room = live-slots i - length (live-log i); stop = 0 }
 
   pub live-standing : History o n log → Standing o n (run-of a) (slides-after o log)
   live-standing x =
@@ -53,9 +64,9 @@ module _ (o : Origin) (n m : ℕ) (log : List Rec) (a : Areas) (h : Holds o n m 
       (record { core = core-same n (run-after o n log) _ (slides-after o log) (slides-after o log) refl refl refl refl refl (history-now o n log x); pages = refl; slides = refl; history = x })
 
   -- What a run that changes nothing leaves.
-  pub live-same : run-side m (run-of a) ≡ a .work
+  pub live-same : n ≤ map-bits → History o n log → run-side m (run-of a) ≡ a .work
   unfolding run-side
-  live-same = ap (run-side m) live-run ∙ sym (h .is)
+  live-same most x = ap (run-side m) live-run ∙ run-left o n m most (record { pages = pages-after o n log; lefts = relinked (pages-after o n log) []; log = log; due = suc (length log); room = m - length log; stop = 0 }) refl x ∙ sym (h .is)
 
 -- ---- how much is stored
 

@@ -13,7 +13,7 @@ use Rattle.def_model.specs.Update.{Run, emit}
 use Rattle.def_model.specs.Answers.{Outcome}
 use Rattle.def_model.specs.Areas.{Areas, Store, store-page, log-stores}
 use Rattle.def_model.specs.Calls.{run-of, run-side}
-use Rattle.def_model.specs.OnBytes.{Call, format, begin, restart, fetch, next, insert, delete, commit, abort, write-out, outcome, take-mark, return-to, load}
+use Rattle.def_model.specs.OnBytes.{Call, format, begin, restart, fetch, next, previous, insert, delete, commit, abort, write-out, outcome, take-mark, return-to, load}
 use Rattle.def_recovery.specs.Book.{Book, book-call}
 use Rattle.def_recovery.specs.Events.{fed}
 use Rattle.def_recovery.specs.Demand3.{is-commit-of}
@@ -32,6 +32,7 @@ is-commit begin = false
 is-commit restart = false
 is-commit (fetch n k) = false
 is-commit (next n k) = false
+is-commit (previous n k) = false
 is-commit (insert n k v) = false
 is-commit (delete n k) = false
 is-commit (commit n) = true

@@ -9,7 +9,7 @@ use lib.ListN.{length}
 use lib.Dec.{leb}
 use Rattle.def_base.specs.Tests.{clash, false-le}
 use Rattle.def_layout.specs.declared.Desk.{Desk}
-use Rattle.def_layout.specs.Pages.{at}
+use Rattle.def_layout.specs.Pages.{map-bits, at}
 use Rattle.def_layout.specs.Records.{Rec}
 use Rattle.def_model.specs.declared.Refusal.{Refusal}
 use Rattle.def_model.specs.declared.Refusal.the-variants.{PageNumber, Unsound}
@@ -17,8 +17,8 @@ use Rattle.def_model.specs.Log.{log-area}
 use Rattle.def_model.specs.Areas.{Areas, store-page, log-stores}
 use Rattle.def_model.specs.Answers.{passed, check, first-broken}
 use Rattle.def_model.specs.Sound.{sound, work-pages, work-log}
-use Rattle.def_model.specs.Calls.{run-of, run-side, stored-run, fetch-checks, fetch-by, fetch-slide, next-checks, next-slide-by, next-slide, write-out-checks, write-out-by, write-out-page, mark-checks, latest-by, mark-batch}
-use Rattle.def_model.specs.OnBytes.{Call, fetch, next, write-out, outcome, take-mark}
+use Rattle.def_model.specs.Calls.{run-of, run-side, stored-run, fetch-checks, fetch-by, fetch-slide, next-checks, next-slide-by, next-slide, previous-checks, previous-slide-by, previous-slide, write-out-checks, write-out-by, write-out-page, mark-checks, latest-by, mark-batch}
+use Rattle.def_model.specs.OnBytes.{Call, fetch, next, previous, write-out, outcome, take-mark}
 use Rattle.def_recovery.specs.Book.{book-call}
 use Rattle.theory_history.specs.Origin.{Origin}
 use Rattle.theory_history.specs.Start.{slides-after}
@@ -33,7 +33,7 @@ nothing-first : (o : Origin) (log a b : List Rec) → [] ≡ a ++ b → slides-a
 nothing-first o log [] b e = ap (slides-after o) (append-nil log)
 nothing-first o log (x ∷ a) b e = let w : _≡_ {A = ℕ} 0 1 = cc in absurd (omega arith)
 
-module _ (o : Origin) (n m : ℕ) (stable log : List Rec) (a : Areas) (d : Desk) (h : Holds o n m log (a .work)) (x : History o n log) where
+module _ (o : Origin) (n m : ℕ) (most : n ≤ map-bits) (stable log : List Rec) (a : Areas) (d : Desk) (h : Holds o n m log (a .work)) (x : History o n log) where
   standing : Standing o n (run-of a) (slides-after o log)
   standing = live-standing o n m log a h x
 
@@ -46,7 +46,7 @@ module _ (o : Origin) (n m : ℕ) (stable log : List Rec) (a : Areas) (d : Desk)
         run = run-of a;
         walk = calm stay;
         standing = subst (λ z. Standing o n (run-of a) (slides-after o z)) (sym l) standing;
-        work = w ∙ sym (live-same o n m log a h);
+        work = w ∙ sym (live-same o n m log a h most x);
         within = subst (λ z. length z ≤ m) (sym l) (h .fits);
         stored = subst (Stored n stable (run-of a)) (sym s) nothing;
         follows = quietly [] q (l ∙ sym (append-nil log)) (nothing-first o log);
@@ -68,6 +68,14 @@ module _ (o : Origin) (n m : ℕ) (stable log : List Rec) (a : Areas) (d : Desk)
       go : (z : Option Refusal) → first-broken (next-checks b k a d) ≡ z → passed (next-slide-by z k a d .answer) ≡ true → Passes o n m stable log (next b k) a d
       go (some r) e p = clash (sym p)
       go none e p = same (next b k) (ap (λ o. next-slide-by o k a d .work) e) (ap (λ o. next-slide-by o k a d .stores) e) refl refl
+
+  pub previous-passes : (b k : ℕ) → passed (outcome (previous b k) a d .answer) ≡ true → Passes o n m stable log (previous b k) a d
+  unfolding outcome previous-slide previous-slide-by passed is-commit book-call
+  previous-passes b k p = go (first-broken (previous-checks b k a d)) refl p
+    where
+      go : (z : Option Refusal) → first-broken (previous-checks b k a d) ≡ z → passed (previous-slide-by z k a d .answer) ≡ true → Passes o n m stable log (previous b k) a d
+      go (some r) e p = clash (sym p)
+      go none e p = same (previous b k) (ap (λ o. previous-slide-by o k a d .work) e) (ap (λ o. previous-slide-by o k a d .stores) e) refl refl
 
   pub mark-passes : (b : ℕ) → passed (outcome (take-mark b) a d .answer) ≡ true → Passes o n m stable log (take-mark b) a d
   unfolding outcome mark-batch latest-by passed is-commit book-call

@@ -14,15 +14,15 @@ use Rattle.def_model.specs.declared.Refusal.the-variants.{PageNumber}
 use Rattle.def_model.specs.Areas.{Areas, blocks-ok, block-ok, zero-side}
 use Rattle.def_model.specs.Answers.{check, first-broken, passed}
 use Rattle.def_model.specs.Sound.{sound, layouts-ok}
-use Rattle.def_model.specs.Calls.{format-areas, begin-checks, fetch-checks, next-checks, zero-key, insert-checks, delete-checks, commit-checks, abort-checks, write-out-checks, mark-checks, return-checks}
-use Rattle.def_model.specs.OnBytes.{Call, format, begin, restart, fetch, next, insert, delete, commit, abort, write-out, outcome, take-mark, return-to, load}
+use Rattle.def_model.specs.Calls.{format-areas, begin-checks, fetch-checks, next-checks, previous-checks, zero-key, insert-checks, delete-checks, commit-checks, abort-checks, write-out-checks, mark-checks, return-checks}
+use Rattle.def_model.specs.OnBytes.{Call, format, begin, restart, fetch, next, previous, insert, delete, commit, abort, write-out, outcome, take-mark, return-to, load}
 use Rattle.def_recovery.specs.Events.{is-format, is-restart}
 use Rattle.theory_refusals.specs.Order.{checks, passed-none, first-refused}
 use Rattle.theory_calls.specs.Checks.{none-broken, kept-check, sound-parts}
 
 -- No check is broken: in particular not 11's.
 pub asks-sound : (c : Call) (a : Areas) (d : Desk) → is-format c ≡ false → is-restart c ≡ false → passed (outcome c a d .answer) ≡ true → sound a d ≡ true
-unfolding is-format is-restart checks begin-checks fetch-checks next-checks insert-checks delete-checks commit-checks abort-checks mark-checks return-checks write-out-checks
+unfolding is-format is-restart checks begin-checks fetch-checks next-checks previous-checks insert-checks delete-checks commit-checks abort-checks mark-checks return-checks write-out-checks
 asks-sound c a d f r p = go c f r (sym (first-refused c a d) ∙ passed-none (outcome c a d .answer) p)
   where
     go : (c : Call) → is-format c ≡ false → is-restart c ≡ false → first-broken (checks c a d) ≡ none → sound a d ≡ true
@@ -32,6 +32,7 @@ asks-sound c a d f r p = go c f r (sym (first-refused c a d) ∙ passed-none (ou
     go begin f r e = kept-check (sound a d) _ _ e .0
     go (fetch b k) f r e = kept-check (sound a d) _ _ e .0
     go (next b k) f r e = kept-check (sound a d) _ _ e .0
+    go (previous b k) f r e = kept-check (sound a d) _ _ e .0
     go (insert b k v) f r e = kept-check (sound a d) _ _ (none-broken (zero-key k) _ e .1) .0
     go (delete b k) f r e = kept-check (sound a d) _ _ e .0
     go (commit b) f r e = kept-check (sound a d) _ _ e .0

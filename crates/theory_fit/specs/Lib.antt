@@ -5,5 +5,6 @@ pub mod Meaning
 pub mod Order
 pub mod Children
 pub mod Clean
+pub mod LeftLinks
 pub mod StepFits
 pub mod NeverFive

@@ -48,7 +48,7 @@ start-core o n least most =
 
 pub start-history : (o : Origin) (n : ℕ) → o .least ≤ n → n ≤ map-bits → History o n []
 unfolding pages-after replay AllBegin
-start-history o n least most = record { lawful = here; begins = tt; firsts = λ a b e. first a b e }
+start-history o n least most = record { least = least; lawful = here; begins = tt; firsts = λ a b e. first a b e }
   where
     first : (a b : List Rec) → [] ≡ a ++ b → Core n (run-after o n a) (slides-after o a)
     first [] b e = start-core o n least most
@@ -88,7 +88,7 @@ module _ (o : Origin) (n m : ℕ) (least : o .least ≤ n) (longer : n ≤ m) (m
   rules = test-sound (origin-pages o m) (origin-tree o m enough most)
 
   -- The same levels, whatever the count of pages.
-  grown-rules : (log : List Rec) (ls : List (List Node)) → Lawful 1 (origin-pages o n) (levels-of (origin-pages o n)) log ls → Rules (pages-after o m log) ls
+  pub grown-rules : (log : List Rec) (ls : List (List Node)) → Lawful 1 (origin-pages o n) (levels-of (origin-pages o n)) log ls → Rules (pages-after o m log) ls
   grown-rules log ls w = subst (λ z. Rules z ls) (sym (after-is o m log)) (lawful-rules (grown-lawful log ls w) few rules (pages-low o m enough) .0)
 
   lawful-levels : (log : List Rec) (ls : List (List Node)) → Lawful 1 (origin-pages o n) (levels-of (origin-pages o n)) log ls → levels-of (pages-after o n log) ≡ ls
@@ -120,6 +120,7 @@ module _ (o : Origin) (n m : ℕ) (least : o .least ≤ n) (longer : n ≤ m) (m
   pub history-grow : (log : List Rec) → History o n log → History o m log
   history-grow log h =
       record {
+        least = enough;
         lawful = subst (λ z. Lawful 1 (origin-pages o m) (levels-of (origin-pages o m)) log z) (sym (rules-levels (pages-after o m log) (levels-of (pages-after o n log)) (grown-rules log _ (h .lawful)))) (grown-lawful log _ (h .lawful));
         begins = h .begins;
         firsts = λ a b e. let (ls, w) = lawful-first a b (subst (λ z. Lawful 1 (origin-pages o n) (levels-of (origin-pages o n)) z (levels-of (pages-after o n log))) e (h .lawful)) in grown-core a ls w (h .firsts a b e);
@@ -135,6 +136,7 @@ pub history-first : (o : Origin) (n : ℕ) → o .least ≤ n → n ≤ map-bits
 history-first o n least most a b h =
     let (ls, w) = lawful-first a b (h .lawful) in
     record {
+      least = least;
       lawful = subst (λ z. Lawful 1 (origin-pages o n) (levels-of (origin-pages o n)) a z) (sym (lawful-levels o n n least (omega arith) most a ls w)) w;
       begins = begins-first 1 a b (h .begins);
       firsts = λ x y e. h .firsts x (y ++ b) (ap (_++ b) e ∙ append-assoc x y b);

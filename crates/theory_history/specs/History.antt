@@ -31,9 +31,10 @@ use Rattle.theory_history.specs.TreeTrail.{append-cancel, levels-after}
 
 -- The run at the end of a log.
 abbrev pub run-after : Origin → ℕ → List Rec → Run
-run-after o n log = record { pages = pages-after o n log; log = log; due = suc (length log); room = 0; stop = 0 }
+run-after o n log = record { pages = pages-after o n log; lefts = []; log = log; due = suc (length log); room = 0; stop = 0 }
 
 pub record History (o : Origin) (n : ℕ) (log : List Rec) : Type 0 where
+  pub least : o .least ≤ n
   pub lawful : Lawful 1 (origin-pages o n) (levels-of (origin-pages o n)) log (levels-of (pages-after o n log))
   pub begins : AllBegin 1 log
   pub firsts : (a b : List Rec) → log ≡ a ++ b → Core n (run-after o n a) (slides-after o a)
@@ -107,6 +108,7 @@ module _ (o : Origin) (n : ℕ) (most : n ≤ map-bits) where
           let lv : x .after ≡ levels-of (pages-after o n (s .log ++ r ∷ [])) = levels-after n most s sl r (x .after) (t .core) (x .step) ∙ ap levels-of p in
           let st : Step (pages-after o n (s .log)) (levels-of (pages-after o n (s .log))) r (levels-of (pages-after o n (s .log ++ r ∷ []))) = subst (λ z. Step z (levels-of z) r (levels-of (pages-after o n (s .log ++ r ∷ [])))) (t .pages) (subst (λ z. Step (s .pages) (levels-of (s .pages)) r z) lv (x .step)) in
           record {
+            least = t .history .least;
             lawful = lawful-append (t .history .lawful) (one st);
             begins = begins-more 1 (s .log) r (t .history .begins) (λ z. let (u, v) = x .begins z in (u ∙ d ∙ sym e, v));
             firsts = λ a b w. first a b w (first-parts (s .log) r a b w);

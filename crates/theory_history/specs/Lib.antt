@@ -13,4 +13,5 @@ pub mod Marking
 pub mod Settling
 pub mod History
 pub mod Growing
+pub mod Linking
 pub mod Redoing

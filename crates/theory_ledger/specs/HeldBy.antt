@@ -7,7 +7,7 @@ use mathlib.Core.List.{List, [], _∷_}
 use lib.Dec.{leb, ltb, eqb}
 use Rattle.def_base.specs.Tests.{Case, yes!, no!, case, clash, any, and-true, and-both, true-eq, eq-true, neq-false, true-lt, lt-true, true-le, le-true}
 use Rattle.def_model.specs.Batches.{Line, Batch}
-use Rattle.def_model.specs.Pending.{holds, held, held-between}
+use Rattle.def_model.specs.Pending.{holds, held, held-between, held-from}
 use Rattle.theory_ledger.specs.Held.{false-neq}
 
 -- x is an element of the list.
@@ -88,3 +88,17 @@ held-between-means n low high bs = (test-held n within (λ j. (low < j) × (j �
 
     said : (j : ℕ) → (low < j) × (j ≤ high) → ltb low j && leb j high ≡ true
     said j h = and-both (lt-true low j (h .0)) (le-true j high (h .1))
+
+-- 02, U5: "with the same rule on held keys", the other way: from the found one on, below the asked one.
+pub held-from-means : (n low high : ℕ) (bs : List Batch) → (held-from n low high bs ≡ true) ↔ HeldBy n (λ j. (low ≤ j) × (j < high)) bs
+unfolding held-from
+held-from-means n low high bs = (test-held n within (λ j. (low ≤ j) × (j < high)) says said bs, held-test n within (λ j. (low ≤ j) × (j < high)) says said bs)
+  where
+    within : ℕ → Bool
+    within j = leb low j && ltb j high
+
+    says : (j : ℕ) → leb low j && ltb j high ≡ true → (low ≤ j) × (j < high)
+    says j e = let (a, b) = and-true (leb low j) (ltb j high) e in (true-le low j a, true-lt j high b)
+
+    said : (j : ℕ) → (low ≤ j) × (j < high) → leb low j && ltb j high ≡ true
+    said j h = and-both (le-true low j (h .0)) (lt-true j high (h .1))

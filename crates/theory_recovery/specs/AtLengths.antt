@@ -1,7 +1,7 @@
 -- Areas of right lengths, as a call reads them: n pages and m slots, zeros read as pages never used and empty slots.
 use Prim.Native.Nat.{ℕ, _+_, _-_, _*_, _≤_}
-use mathlib.Core.Path.{_≡_, sym, ap, _∙_, subst}
-use mathlib.Core.List.{List, _++_, map}
+use mathlib.Core.Path.{_≡_, sym, ap, ap₂, _∙_, subst, subst₂}
+use mathlib.Core.List.{List, [], _++_, map, append-nil}
 use native.Mathlib.Omega.{arith}
 use lib.ListN.{length, replicate, length-replicate}
 use Rattle.def_layout.specs.Numbers.{zeros}
@@ -9,19 +9,23 @@ use Rattle.def_layout.specs.Pages.{zero-page, map-bits}
 use Rattle.def_layout.specs.PageBytes.{page}
 use Rattle.def_layout.specs.Sizes.{page-size, slot-size}
 use Rattle.def_layout.specs.Records.{Rec}
+use Rattle.def_model.specs.Links.{relinked}
 use Rattle.def_model.specs.Areas.{zero-side}
-use Rattle.def_model.specs.OnBytes.{Lent, read-pages, read-log, read-areas}
+use Rattle.def_model.specs.OnBytes.{Lent, read-work, read-lefts, read-log, read-areas}
 use Rattle.theory_redo.specs.Current.{Behind}
 use Rattle.theory_redo.specs.Grown.{zeros-extend, zeros-beyond, behind-grow}
 use Rattle.theory_history.specs.Origin.{Origin, two-pages}
 use Rattle.theory_history.specs.Start.{pages-after, length-after}
 use Rattle.theory_history.specs.History.{history-now}
 use Rattle.theory_history.specs.Growing.{history-grow}
+use Rattle.theory_history.specs.Linking.{history-linked, links-longer}
+use Rattle.theory_tree.specs.Shape.LeftLinks.{relinked-length}
 use Rattle.theory_history.specs.Redoing.{Image}
 use Rattle.theory_ranges.specs.Histories.{RangedHistory, ranged-now, behind-fits}
 use Rattle.theory_ranges.specs.Growing.{after-longer, ranged-history-grow}
 use Rattle.law_areas.specs.Lengths.{Lengths}
-use Rattle.law_areas.specs.Pages.{HoldsPages, filled, filled-length, filled-whole, pages-fit, pages-read, holds-zero-pages, zero-pages-read}
+use Rattle.law_areas.specs.Pages.{filled, filled-length, filled-whole, pages-fit, pages-read, holds-zero-pages}
+use Rattle.law_areas.specs.Working.{HoldsWork, paired-lefts, all-links, work-read, lefts-read, holds-zero-work, zero-work-read, zero-lefts-read}
 use Rattle.law_areas.specs.Logs.{AllFit, log-fits, log-read, empty-log-read}
 use Rattle.theory_calls.specs.LiveAreas.{Holds}
 use Rattle.theory_recovery.specs.Invariant.{Sure, Live}
@@ -71,10 +75,16 @@ module _ (o : Origin) (n m k : ℕ) (l : Lent) (z : Lengths l n m) where
         let e = length-after o k log in
         ap (λ q. pages-after o k log ++ replicate (n - q) zero-page) e ∙ sym (after-longer o k n least more log (history-now o k log (s .history) .names))
 
+    longer-links : relinked (pages-after o k log) [] ++ replicate (n - length (pages-after o k log)) 0 ≡ relinked (pages-after o n log) []
+    longer-links =
+        let e = length-after o k log in
+        ap (λ q. relinked (pages-after o k log) [] ++ replicate (n - q) 0) e
+        ∙ sym (links-longer o k n least more most-bits log (s .history) (after-longer o k n least more log (history-now o k log (s .history) .names)))
+
     pub live-now : Live o n l stable log
     live-now =
         record {
-          pages = subst (HoldsPages (l .work-pages)) longer-pages (holds-zero-pages n (pages-after o k log) (s .pages) (z .work-pages));
+          pages = subst₂ (HoldsWork (l .work-pages)) longer-pages longer-links (holds-zero-work n (pages-after o k log) (relinked (pages-after o k log) []) (s .pages) (z .work-pages) (relinked-length (pages-after o k log) []));
           logged = s .logged;
           history = history-grow o k n least more most-bits log (s .history);
           ranged = ranged-history-grow o k n least more log (s .history) (s .ranged);
@@ -102,10 +112,16 @@ module _ (o : Origin) (n m : ℕ) (l : Lent) (z : Lengths l n m) where
   pub holding : (stable log : List Rec) (s : Live o n l stable log) → Holds o n m log (read-areas l .work)
   unfolding read-areas
   holding stable log s =
+      let xs = pages-after o n log in
+      let ls = relinked xs [] in
       let e = length-after o n log in
-      let p = pages-read n (pages-after o n log) (s .pages) (z .work-pages) (ranged-now o n log (s .ranged) .pages) ∙ ap (map page) (filled-whole n (pages-after o n log) e) in
+      let w = relinked-length xs [] in
+      let fit = all-links xs ls w (λ p h. history-linked o n (z .most-pages) log (s .history) p) (ranged-now o n log (s .ranged) .pages) in
+      let p = work-read n xs ls (s .pages) (z .work-pages) fit ∙ ap (map page) (filled-whole n xs e) in
+      let none : n - length xs ≡ 0 = omega arith in
+      let f = lefts-read n xs ls (s .pages) (z .work-pages) fit ∙ ap₂ (λ a k. a ++ replicate k 0) (paired-lefts xs ls w) none ∙ append-nil ls in
       let q = log-read m log (s .logged) (z .work-log) (history-fits o n log (s .ranged)) in
-      record { is = λ i. record { pages = p i; log = q i }; fits = log-fits m log (s .logged) (z .work-log) }
+      record { is = λ i. record { pages = p i; lefts = f i; log = q i }; fits = log-fits m log (s .logged) (z .work-log) }
 
 module _ (n m : ℕ) (l : Lent) (z : Lengths l n m) where
   -- Zeros are read as zeros.
@@ -114,4 +130,4 @@ module _ (n m : ℕ) (l : Lent) (z : Lengths l n m) where
   zeros-read j k a b =
       let c : j ≡ page-size * n = sym (length-replicate j 0) ∙ ap length (sym a) ∙ z .work-pages in
       let d : k ≡ slot-size * m = sym (length-replicate k 0) ∙ ap length (sym b) ∙ z .work-log in
-      λ i. record { pages = (ap read-pages (a ∙ ap zeros c) ∙ zero-pages-read n) i; log = (ap read-log (b ∙ ap zeros d) ∙ empty-log-read m) i }
+      λ i. record { pages = (ap read-work (a ∙ ap zeros c) ∙ zero-work-read n) i; lefts = (ap read-lefts (a ∙ ap zeros c) ∙ zero-lefts-read n) i; log = (ap read-log (b ∙ ap zeros d) ∙ empty-log-read m) i }

@@ -17,7 +17,7 @@ use Rattle.def_model.specs.declared.Answer.{Answer}
 use Rattle.def_model.specs.Answers.{answer-numbers, passed, first-broken}
 use Rattle.def_model.specs.Areas.{Areas}
 use Rattle.def_model.specs.Calls.{begin-by, begin-batch, begin-checks, kept-run}
-use Rattle.def_model.specs.OnBytes.{Call, format, begin, restart, fetch, next, insert, delete, commit, abort, write-out, Lent, lengths-ok, read-areas, outcome, call-by, call, lent-after, take-mark, return-to, load}
+use Rattle.def_model.specs.OnBytes.{Call, format, begin, restart, fetch, next, previous, insert, delete, commit, abort, write-out, Lent, lengths-ok, read-areas, outcome, call-by, call, lent-after, take-mark, return-to, load}
 use Rattle.def_recovery.specs.Book.{Book, file, strike, open-sheet, write-line, book-call}
 use Rattle.def_recovery.specs.Events.{World, Event, result, passes, last-in, fed, is-format, is-restart, book-after, end-call, cut-call, grow, happen, happen-all}
 use Rattle.def_recovery.specs.Events as typed
@@ -67,6 +67,7 @@ book-read begin l d b p = ap (λ n. open-sheet n b) (first-back (call begin l d 
 book-read restart l d b p = refl
 book-read (fetch n k) l d b p = refl
 book-read (next n k) l d b p = refl
+book-read (previous n k) l d b p = refl
 book-read (insert n k v) l d b p = ap (λ q. write-line n (last-in n (q .rows)) (file k v) b) (passed-read-back (insert n k v) l d refl refl p)
 book-read (delete n k) l d b p = ap (λ q. write-line n (last-in n (q .rows)) (strike k) b) (passed-read-back (delete n k) l d refl refl p)
 book-read (commit n) l d b p = refl

@@ -23,7 +23,7 @@ use Rattle.def_model.specs.Calls
 use Rattle.def_model.specs.Calls.{run-of, kept-run, stored-run, aborted, abort-of, returned, return-of}
 use Rattle.def_model.specs.Restart.{restart-by, restart-areas, restart-checks, restarted}
 use Rattle.def_model.specs.OnBytes
-use Rattle.def_model.specs.OnBytes.{Call, format, restart, fetch, next, abort, write-out, Lent, refused-desk, read-areas, lengths-ok, outcome, call-by, call, take-mark, return-to, load}
+use Rattle.def_model.specs.OnBytes.{Call, format, restart, fetch, next, previous, abort, write-out, Lent, refused-desk, read-areas, lengths-ok, outcome, call-by, call, take-mark, return-to, load}
 use Rattle.def_recovery.specs.Events.{is-format, is-restart}
 use Rattle.law_bytes.specs.DeskBytes.{Fits, read-desk-back}
 use Rattle.law_bytes.specs.DeskSame.{desk-same}
@@ -68,6 +68,11 @@ module _ (a : Areas) (d : Desk) (few : length (a .work .log) < 2 ^ 32) (fewer : 
   unfolding Calls.next-slide-by
   next-fits (some r) k = fit
   next-fits none k = fit
+
+  previous-fits : (o : Option Refusal) (k : ℕ) → Fits (Calls.previous-slide-by o k a d .desk)
+  unfolding Calls.previous-slide-by
+  previous-fits (some r) k = fit
+  previous-fits none k = fit
 
   insert-fits : (o : Option Refusal) (b k v : ℕ) → Fits (Calls.insert-by o b k v a d .desk)
   unfolding Calls.insert-by
@@ -120,13 +125,14 @@ module _ (a : Areas) (d : Desk) (few : length (a .work .log) < 2 ^ 32) (fewer : 
   restart-fits none = let w = restarted-within a in desk-of-fits (restarted a .log) (length (restarted a .log)) (omega arith) (omega arith)
 
   outcome-fits : (c : Call) → Fits (outcome c a d .desk)
-  unfolding outcome Calls.format-areas Calls.load-areas Calls.begin-batch Calls.fetch-slide Calls.next-slide Calls.insert-slide Calls.delete-slide Calls.commit-batch Calls.abort-batch Calls.mark-batch Calls.return-batch Calls.write-out-page restart-areas
+  unfolding outcome Calls.format-areas Calls.load-areas Calls.begin-batch Calls.fetch-slide Calls.next-slide Calls.previous-slide Calls.insert-slide Calls.delete-slide Calls.commit-batch Calls.abort-batch Calls.mark-batch Calls.return-batch Calls.write-out-page restart-areas
   outcome-fits format = empty-fits
   outcome-fits (load ks vs) = load-fits (first-broken (Calls.load-checks ks vs a)) ks vs
   outcome-fits OnBytes.begin = begin-fits (first-broken (Calls.begin-checks a d))
   outcome-fits restart = restart-fits (first-broken (restart-checks a))
   outcome-fits (fetch b k) = fetch-fits (first-broken (Calls.fetch-checks b k a d)) k
   outcome-fits (next b k) = next-fits (first-broken (Calls.next-checks b k a d)) k
+  outcome-fits (previous b k) = previous-fits (first-broken (Calls.previous-checks b k a d)) k
   outcome-fits (OnBytes.insert b k v) = insert-fits (first-broken (Calls.insert-checks b k a d)) b k v
   outcome-fits (OnBytes.delete b k) = delete-fits (first-broken (Calls.delete-checks b k a d)) b k
   outcome-fits (OnBytes.commit b) = commit-fits (first-broken (Calls.commit-checks b a d)) b
@@ -143,6 +149,7 @@ refused-fits OnBytes.begin d h = h
 refused-fits restart d h = empty-fits
 refused-fits (fetch b k) d h = h
 refused-fits (next b k) d h = h
+refused-fits (previous b k) d h = h
 refused-fits (OnBytes.insert b k v) d h = h
 refused-fits (OnBytes.delete b k) d h = h
 refused-fits (OnBytes.commit b) d h = h

@@ -14,7 +14,7 @@ use Rattle.def_layout.specs.Records.{Rec}
 use Rattle.def_model.specs.Areas.{Areas}
 use Rattle.def_model.specs.Log.{log-area}
 use Rattle.def_model.specs.Answers.{Outcome, passed}
-use Rattle.def_model.specs.OnBytes.{Call, format, begin, restart, fetch, next, insert, delete, commit, abort, write-out, outcome, read-areas, lengths-ok, take-mark, return-to, load}
+use Rattle.def_model.specs.OnBytes.{Call, format, begin, restart, fetch, next, previous, insert, delete, commit, abort, write-out, outcome, read-areas, lengths-ok, take-mark, return-to, load}
 use Rattle.def_recovery.specs.Events.{World, is-format, is-restart, fits-32, of-32-bits}
 use Rattle.theory_history.specs.Origin.{Origin}
 use Rattle.theory_history.specs.History.{History}
@@ -24,7 +24,7 @@ use Rattle.law_areas.specs.Lengths.{Lengths, lengths-said}
 use Rattle.theory_calls.specs.Stories.{story}
 use Rattle.theory_calls.specs.LiveAreas.{Holds}
 use Rattle.theory_calls.specs.Passing.{book-of, Fixed, Passes}
-use Rattle.theory_calls.specs.Questions.{fetch-passes, next-passes, write-out-passes, mark-passes}
+use Rattle.theory_calls.specs.Questions.{fetch-passes, next-passes, previous-passes, write-out-passes, mark-passes}
 use Rattle.theory_calls.specs.Batching.{begin-passes, commit-passes, abort-passes, return-passes}
 use Rattle.theory_calls.specs.Changing.{insert-passes, delete-passes}
 use Rattle.theory_calls.specs.Restarting.{passed-stop, restart-book}
@@ -59,16 +59,17 @@ module _ (o : Origin) (n m : ℕ) (most : n ≤ map-bits) (stable log : List Rec
   all-pass (load ks vs) f r k p = clash f
   all-pass restart f r k p = clash r
   all-pass begin f r k p = begin-passes o n m most stable log a d h x p
-  all-pass (fetch b q) f r k p = fetch-passes o n m stable log a d h x b q p
-  all-pass (next b q) f r k p = next-passes o n m stable log a d h x b q p
+  all-pass (fetch b q) f r k p = fetch-passes o n m most stable log a d h x b q p
+  all-pass (next b q) f r k p = next-passes o n m most stable log a d h x b q p
+  all-pass (previous b q) f r k p = previous-passes o n m most stable log a d h x b q p
   all-pass (insert b q v) f r k p =
       let (y, u) = and-true (fits-32 q) (fits-32 v) (and-true (fits-32 b) (fits-32 q && fits-32 v) k .1) in
       insert-passes o n m most stable log a d h x b q v (true-le q top y) (true-le v top u) p
   all-pass (delete b q) f r k p = delete-passes o n m most stable log a d h x b q (true-le q top (and-true (fits-32 b) (fits-32 q) k .1)) p
   all-pass (commit b) f r k p = commit-passes o n m most stable log a d h x b t p
   all-pass (abort b) f r k p = abort-passes o n m most stable log a d h x b p
-  all-pass (write-out q) f r k p = write-out-passes o n m stable log a d h x q t p
-  all-pass (take-mark b) f r k p = mark-passes o n m stable log a d h x b p
+  all-pass (write-out q) f r k p = write-out-passes o n m most stable log a d h x q t p
+  all-pass (take-mark b) f r k p = mark-passes o n m most stable log a d h x b p
   all-pass (return-to b q) f r k p = return-passes o n m most stable log a d h x b q p
 
 -- The only restart.
@@ -80,6 +81,7 @@ only-restart (load ks vs) e = clash (sym e)
 only-restart begin e = clash (sym e)
 only-restart (fetch a b) e = clash (sym e)
 only-restart (next a b) e = clash (sym e)
+only-restart (previous a b) e = clash (sym e)
 only-restart (insert a b d) e = clash (sym e)
 only-restart (delete a b) e = clash (sym e)
 only-restart (commit a) e = clash (sym e)

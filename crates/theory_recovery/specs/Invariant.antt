@@ -2,11 +2,12 @@
 use Prim.Native.Nat.{ℕ, _+_, _≤_}
 use mathlib.Core.Path.{_≡_}
 use mathlib.Core.Bool.{Bool, true}
-use mathlib.Core.List.{List, _++_}
+use mathlib.Core.List.{List, [], _++_}
 use lib.ListN.{length}
 use Rattle.def_layout.specs.Numbers.{zeros}
 use Rattle.def_layout.specs.Pages.{Page, map-bits}
 use Rattle.def_layout.specs.Records.{Rec}
+use Rattle.def_model.specs.Links.{relinked}
 use Rattle.def_model.specs.OnBytes.{Lent}
 use Rattle.def_recovery.specs.Book.{Book}
 use Rattle.def_recovery.specs.Events.{World}
@@ -16,6 +17,7 @@ use Rattle.theory_history.specs.Start.{slides-after, pages-after}
 use Rattle.theory_history.specs.History.{History}
 use Rattle.theory_ranges.specs.Histories.{RangedHistory}
 use Rattle.law_areas.specs.Pages.{HoldsPages}
+use Rattle.law_areas.specs.Working.{HoldsWork}
 use Rattle.law_areas.specs.Logs.{HoldsLog}
 use Rattle.theory_calls.specs.Stories.{story}
 use Rattle.theory_calls.specs.Passing.{Fixed}
@@ -34,7 +36,7 @@ pub record Sure (o : Origin) (n : ℕ) (l : Lent) (log : List Rec) : Type 0 wher
 
 -- The working areas hold a longer history, which tells of the same slides from the stored part on.
 pub record Live (o : Origin) (n : ℕ) (l : Lent) (stable log : List Rec) : Type 0 where
-  pub pages : HoldsPages (l .work-pages) (pages-after o n log)
+  pub pages : HoldsWork (l .work-pages) (pages-after o n log) (relinked (pages-after o n log) [])
   pub logged : HoldsLog (l .work-log) log
   pub history : History o n log
   pub ranged : RangedHistory o n log

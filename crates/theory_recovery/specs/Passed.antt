@@ -12,10 +12,11 @@ use Rattle.def_layout.specs.declared.Desk.{Desk}
 use Rattle.def_layout.specs.PageBytes.{page}
 use Rattle.def_layout.specs.Records.{Rec}
 use Rattle.def_model.specs.Update.{Run}
+use Rattle.def_model.specs.Links.{relinked}
 use Rattle.def_model.specs.Areas.{log-stores}
 use Rattle.def_model.specs.Answers.{Outcome}
 use Rattle.def_model.specs.Calls.{run-side}
-use Rattle.def_model.specs.OnBytes.{Call, format, begin, restart, fetch, next, insert, delete, commit, abort, write-out, Lent, store-all-bytes, pages-bytes, log-bytes, take-mark, return-to, load}
+use Rattle.def_model.specs.OnBytes.{Call, format, begin, restart, fetch, next, previous, insert, delete, commit, abort, write-out, Lent, store-all-bytes, work-bytes, log-bytes, take-mark, return-to, load}
 use Rattle.def_recovery.specs.Book.{Book, book-call, book-cut}
 use Rattle.def_recovery.specs.Events.{World, Rubble}
 use Rattle.def_recovery.specs.Demand3.{is-commit-of}
@@ -23,9 +24,11 @@ use Rattle.theory_history.specs.Origin.{Origin}
 use Rattle.theory_history.specs.Start.{slides-after, pages-after}
 use Rattle.theory_ranges.specs.Histories.{RangedHistory}
 use Rattle.law_areas.specs.Lengths.{Lengths}
-use Rattle.law_areas.specs.Pages.{HoldsPages, pages-hold}
+use Rattle.law_areas.specs.Pages.{HoldsPages}
+use Rattle.law_areas.specs.Working.{HoldsWork, work-hold}
 use Rattle.law_areas.specs.Logs.{HoldsLog, area-holds}
 use Rattle.theory_calls.specs.Stories.{story}
+use Rattle.theory_calls.specs.LiveAreas.{run-left}
 use Rattle.theory_calls.specs.Passing.{book-of, is-commit, Fixed, Follows, quietly, by-commit}
 use Rattle.theory_calls.specs.Ends.{Ends}
 use Rattle.theory_recovery.specs.Invariant.{Sure, Live, Mode, live, lost, Inv}
@@ -62,6 +65,7 @@ calm-cut begin b book e = refl
 calm-cut restart b book e = refl
 calm-cut (fetch n k) b book e = refl
 calm-cut (next n k) b book e = refl
+calm-cut (previous n k) b book e = refl
 calm-cut (insert n k v) b book e = refl
 calm-cut (delete n k) b book e = refl
 calm-cut (commit n) b book e = clash e
@@ -91,11 +95,14 @@ module _ (origin : Origin) (n m : ℕ) (l : Lent) (z : Lengths l n m) (stable : 
       walk-ranged origin n (s .most) log (e .walk) (e .begins) (omega arith) (subst (RangedHistory origin n) (sym (e .from)) ranged)
 
   -- The working areas that it leaves.
-  lives : (k : Lent) → k .work-pages ≡ pages-bytes (o .work .pages) → k .work-log ≡ log-bytes (o .work .log) → (part tail : List Rec) → e .run .log ≡ (stable ++ part) ++ tail → Fixed origin (stable ++ part) tail → Live origin n k (stable ++ part) (e .run .log)
+  lives : (k : Lent) → k .work-pages ≡ work-bytes (o .work .pages) (o .work .lefts) → k .work-log ≡ log-bytes (o .work .log) → (part tail : List Rec) → e .run .log ≡ (stable ++ part) ++ tail → Fixed origin (stable ++ part) tail → Live origin n k (stable ++ part) (e .run .log)
   unfolding run-side
   lives k a b part tail q f =
       record {
-        pages = subst (λ x. HoldsPages x (pages-after origin n (e .run .log))) (sym (a ∙ ap (λ y. pages-bytes (y .pages)) (e .work) ∙ ap (λ y. pages-bytes (map page y)) (e .standing .pages))) (pages-hold (pages-after origin n (e .run .log)));
+        pages =
+            subst (λ x. HoldsWork x (pages-after origin n (e .run .log)) (relinked (pages-after origin n (e .run .log)) []))
+            (sym (a ∙ ap (λ y. work-bytes (y .pages) (y .lefts)) (e .work ∙ run-left origin n m (s .most) (e .run) (e .standing .pages) (e .standing .history))))
+            (work-hold (pages-after origin n (e .run .log)) (relinked (pages-after origin n (e .run .log)) []));
         logged = subst (λ x. HoldsLog x (e .run .log)) (sym (b ∙ ap (λ y. log-bytes (y .log)) (e .work))) (area-holds m (e .run .log));
         history = e .standing .history;
         ranged = ranged-run;
@@ -169,7 +176,7 @@ module _ (origin : Origin) (n m : ℕ) (l : Lent) (z : Lengths l n m) (stable : 
     pub told : (b : ℕ) → c ≡ commit b → any (is-commit-of b) (next .inv .log) ≡ true
 
   abbrev pub ends-in : Desk → Bool → World
-  ends-in d cut = after (length (o .stores)) (pages-bytes (o .work .pages)) (log-bytes (o .work .log)) d (book-of c o book) cut
+  ends-in d cut = after (length (o .stores)) (work-bytes (o .work .pages) (o .work .lefts)) (log-bytes (o .work .log)) d (book-of c o book) cut
 
   pub ended-next : (d : Desk) (cut : Bool) → Told (ends-in d cut)
   unfolding is-commit
@@ -183,7 +190,7 @@ module _ (origin : Origin) (n m : ℕ) (l : Lent) (z : Lengths l n m) (stable : 
           let r : e .run .log ≡ stable ++ (rest ++ more) = q ∙ ap (_++ more) is ∙ append-assoc stable rest more in
           let g : Fixed origin stable (rest ++ more) = fixed-append origin stable rest more fixed (subst (λ y. Fixed origin y more) is f) in
           record {
-            next = quiet (length (o .stores)) (pages-bytes (o .work .pages)) (log-bytes (o .work .log)) d (book-of c o book) cut more q f
+            next = quiet (length (o .stores)) (work-bytes (o .work .pages) (o .work .lefts)) (log-bytes (o .work .log)) d (book-of c o book) cut more q f
                 (λ sl part tail w. live (e .run .log) (lives (ends-in d cut .lent) refl refl part tail (r ∙ ap (stable ++_) w ∙ sym (append-assoc stable part tail)) (fixed-tail origin stable (rest ++ more) part tail w g)) tells)
                 (told-slides (book-of c o book) tells ∙ ap (slides-after origin) r ∙ fixed-all origin stable (rest ++ more) g);
             told = λ b x. clash (sym (ap is-commit x) ∙ k);
@@ -192,7 +199,7 @@ module _ (origin : Origin) (n m : ℕ) (l : Lent) (z : Lengths l n m) (stable : 
           let h : length (rest ++ r ∷ []) ≤ length (o .stores) = let y = count r q w in omega arith in
           let u = whole-log (length (o .stores)) r q h in
           let v : stable ++ take (length (o .stores)) (rest ++ r ∷ []) ≡ (stable ++ rest) ++ r ∷ [] = sym u ∙ q ∙ ap (_++ r ∷ []) is in
-          let (y, p) = committed (length (o .stores)) (pages-bytes (o .work .pages)) (log-bytes (o .work .log)) d (book-of c o book) cut r q w (told-slides (book-of c o book) tells ∙ ap (slides-after origin) u)
+          let (y, p) = committed (length (o .stores)) (work-bytes (o .work .pages) (o .work .lefts)) (log-bytes (o .work .log)) d (book-of c o book) cut r q w (told-slides (book-of c o book) tells ∙ ap (slides-after origin) u)
           (live (e .run .log) (lives (ends-in d cut .lent) refl refl (take (length (o .stores)) (rest ++ r ∷ [])) [] (u ∙ sym (append-nil _)) (fixed-none origin (stable ++ take (length (o .stores)) (rest ++ r ∷ [])))) tells) in
           record { next = y; told = λ k f. subst (λ a. any (is-commit-of k) a ≡ true) (sym (p ∙ v)) (any-last (is-commit-of k) (stable ++ rest) r (subst (λ a. is-commit-of a r ≡ true) (same b k (sym x ∙ f)) ok)) }
         where

@@ -10,15 +10,16 @@ use Rattle.def_base.specs.Tests.{any, clash, Case, yes!, no!, case}
 use Rattle.def_layout.specs.declared.Desk.{Desk}
 use Rattle.def_layout.specs.Numbers.{zeros}
 use Rattle.def_model.specs.declared.Refusal.{Refusal}
+use Rattle.def_model.specs.Links.{relinked}
 use Rattle.def_model.specs.Areas.{Store}
 use Rattle.def_model.specs.Answers.{passed}
-use Rattle.def_model.specs.OnBytes.{Call, format, begin, restart, fetch, next, insert, delete, commit, abort, write-out, outcome, Lent, Result, call, call-by, read-areas, lengths-ok, lent-after, store-all-bytes, take-mark, return-to, load}
+use Rattle.def_model.specs.OnBytes.{Call, format, begin, restart, fetch, next, previous, insert, delete, commit, abort, write-out, outcome, Lent, Result, call, call-by, read-areas, lengths-ok, lent-after, store-all-bytes, take-mark, return-to, load}
 use Rattle.def_recovery.specs.Book.{Book, book-cut}
 use Rattle.def_recovery.specs.Events.{World, Rubble, Granted, is-format, result, passes, book-after, end-call, cut-call, all-stored, grow}
 use Rattle.def_recovery.specs.Demand3.{is-commit-of}
 use Rattle.theory_history.specs.Start.{pages-after}
 use Rattle.law_areas.specs.Held.{holds-grown}
-use Rattle.law_areas.specs.Pages.{HoldsPages}
+use Rattle.law_areas.specs.Working.{HoldsWork}
 use Rattle.law_areas.specs.Logs.{HoldsLog}
 use Rattle.theory_recovery.specs.Invariant.{Mode, live, dead, lost, Inv}
 use Rattle.theory_refusals.specs.Order.{not-passed}
@@ -77,6 +78,7 @@ no-cut begin b = refl
 no-cut restart b = refl
 no-cut (fetch n k) b = refl
 no-cut (next n k) b = refl
+no-cut (previous n k) b = refl
 no-cut (insert n k v) b = refl
 no-cut (delete n k) b = refl
 no-cut (commit n) b = refl
@@ -134,7 +136,7 @@ module _ (w : World) (i : Inv w) (c : Call) (r : Result) (u : Unpassed (w .lent)
       go (inl (e, f)) (dead j k g h) = dead j k (e ∙ g) (f ∙ h)
       go (inl (e, f)) (lost g) = lost (cut-same ∙ g)
       go (inl (e, f)) (live log y g) =
-          live log (record { pages = subst (λ b. HoldsPages b (pages-after (i .origin) (i .n) log)) (sym e) (y .pages); logged = subst (λ b. HoldsLog b log) (sym f) (y .logged); history = y .history; ranged = y .ranged; rest = y .rest; longer = y .longer; fixed = y .fixed }) (book-same ∙ g)
+          live log (record { pages = subst (λ b. HoldsWork b (pages-after (i .origin) (i .n) log) (relinked (pages-after (i .origin) (i .n) log) [])) (sym e) (y .pages); logged = subst (λ b. HoldsLog b log) (sym f) (y .logged); history = y .history; ranged = y .ranged; rest = y .rest; longer = y .longer; fixed = y .fixed }) (book-same ∙ g)
 
   pub refused-cut : (j : ℕ) (left : Rubble) → Next (i .log) (cut-by c j left r w)
   unfolding lent-after

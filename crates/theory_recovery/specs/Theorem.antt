@@ -23,17 +23,18 @@ use Rattle.def_model.specs.Answers.{answer-numbers, passed}
 use Rattle.def_model.specs.TreeRules.{leaf-records}
 use Rattle.def_model.specs.Batches.{open-batches, told}
 use Rattle.def_model.specs.Loading.{columns, loaded-pages}
-use Rattle.def_model.specs.Calls.{formatted-pages, format-stores, format-areas, run-side, load-by, load-areas}
+use Rattle.def_model.specs.Calls.{formatted-pages, format-stores, format-areas, start-side, load-by, load-areas}
+use Rattle.def_model.specs.Links.{relinked}
 use Rattle.def_model.specs.Restart.{stable-log, redone, restarted}
 use Rattle.def_model.specs.Redo.{replay}
 use Rattle.def_model.specs.OnBytes
-use Rattle.def_model.specs.OnBytes.{Call, Result, format, begin, restart, fetch, next, insert, delete, commit, abort, write-out, take-mark, return-to, outcome, Lent, call, call-by, read-areas, read-pages, pages-bytes, log-bytes, lengths-ok, lent-after, store-all-bytes, load}
+use Rattle.def_model.specs.OnBytes.{Call, Result, format, begin, restart, fetch, next, previous, insert, delete, commit, abort, write-out, take-mark, return-to, outcome, Lent, call, call-by, read-areas, read-work, work-bytes, log-bytes, lengths-ok, lent-after, store-all-bytes, load}
 use Rattle.def_recovery.specs.Book.{new-book}
 use Rattle.def_recovery.specs.Events.{World, Event, ended, cut, grown, Allowed, AllAllowed, formatted, happen, happen-all, is-format, of-32-bits, passes, started, first-slides}
 use Rattle.def_recovery.specs.Demand3.{Demand3, Recovers, WantsExactly, Suffices, FinishesOrWants, RedoBalances, LeavesAreSlides, reason, stored, is-commit-of}
 use Rattle.theory_ledger.specs.Telling.{slides-of, slides-from}
 use Rattle.theory_room.specs.Restarting.{restarted-cases, restarted-finishes, restarted-wants-room, restarted-wants-pages, restarted-wants-room-first, some-room-does, redone-no-room}
-use Rattle.law_areas.specs.Typed.{formatted-length}
+use Rattle.law_areas.specs.Typed.{formatted-length, pages-back}
 use Rattle.theory_history.specs.Origin.{Origin, origin-pages, origin-length}
 use Rattle.theory_history.specs.FormattedOrigin.{formatted-origin, formatted-is}
 use Rattle.theory_history.specs.Core.{Core}
@@ -42,10 +43,14 @@ use Rattle.theory_history.specs.Growing.{start-history}
 use Rattle.theory_history.specs.Redoing.{Image, image-tree, redone-standing, stable-log-is}
 use Rattle.theory_ranges.specs.Histories.{RangedHistory, ranged-history-start, ranged-history-trail, ranged-standing}
 use Rattle.law_areas.specs.Lengths.{Lengths, lengths-said}
-use Rattle.law_areas.specs.Pages.{HoldsPages, AllPagesFit, pages-hold, pages-length, pages-read-of, filled-whole, read-pages-length}
+use Rattle.law_areas.specs.Pages.{HoldsPages, AllPagesFit, filled, filled-whole}
+use Rattle.law_areas.specs.Working.{HoldsWork, AllLinks, paired, all-links, work-read, work-hold, work-length, read-work-length}
 use Rattle.law_areas.specs.Logs.{HoldsLog, no-records, empty-bytes, read-log-length}
 use Rattle.law_areas.specs.Formatting
 use Rattle.theory_calls.specs.Stories.{story, sheets-of}
+use Rattle.theory_calls.specs.LiveAreas.{run-left}
+use Rattle.theory_history.specs.Linking.{history-linked}
+use Rattle.theory_tree.specs.Shape.LeftLinks.{relinked-length}
 use Rattle.theory_calls.specs.Restarting.{restart-reason, finished, restart-work, restart-within}
 use Rattle.theory_load.specs.Checked.{Starts, load-passes, load-starts}
 use Rattle.theory_sound.specs.RestartRoom.{reserves-finish, reserves-end, redone-no-page}
@@ -59,7 +64,7 @@ use Rattle.theory_recovery.specs.Steps.{grown-next, ended-reports, cut-k
 
 -- A register that holds an origin and no records, and a book with the origin's slides.
 pub start-inv : (o : Origin) (n : ℕ) → o .least ≤ n → n ≤ map-bits → (w : World) → w .book ≡ story o []
-    → HoldsPages (w .lent .stable-pages) (origin-pages o n) → HoldsLog (w .lent .stable-log) [] → HoldsPages (w .lent .work-pages) (origin-pages o n) → HoldsLog (w .lent .work-log) [] → Inv w
+    → HoldsPages (w .lent .stable-pages) (origin-pages o n) → HoldsLog (w .lent .stable-log) [] → HoldsWork (w .lent .work-pages) (origin-pages o n) (relinked (origin-pages o n) []) → HoldsLog (w .lent .work-log) [] → Inv w
 unfolding pages-after replay story
 start-inv o n least most w told sp sl wp wl =
     let x = start-history o n least most in
@@ -93,11 +98,11 @@ module _ (l : Lent) (d : Desk) (lens : lengths-ok l ≡ true) where
   unfolding n m read-areas
   sizes =
       let z = lengths-said l lens in
-      subst₂ (Lengths l) (sym (read-pages-length (length (l .work-pages) / page-size) (l .work-pages) (z .work-pages))) (sym (read-log-length (length (l .work-log) / slot-size) (l .work-log) (z .work-log))) z
+      subst₂ (Lengths l) (sym (read-work-length (length (l .work-pages) / page-size) (l .work-pages) (z .work-pages))) (sym (read-log-length (length (l .work-log) / slot-size) (l .work-log) (z .work-log))) z
 
   -- A finished formatting or loading of these pages, with these slides.
   made : List Page → Result
-  made pages = record { answer = Done; work-pages = pages-bytes (map page pages); work-log = log-bytes (replicate m empty); desk = empty-desk; stores = format-stores pages m }
+  made pages = record { answer = Done; work-pages = work-bytes (map page pages) (relinked pages []); work-log = log-bytes (replicate m empty); desk = empty-desk; stores = format-stores pages m }
 
   done : List Page → List Entry → World
   done pages es = let r = made pages in record { lent = lent-after (length (r .stores)) r l; desk = r .desk; book = new-book es; since-cut = false }
@@ -113,16 +118,16 @@ module _ (l : Lent) (d : Desk) (lens : lengths-ok l ≡ true) where
       start-inv o n least (sizes .most-pages) (done pages (o .slides)) refl
       (subst (λ q. HoldsPages (q .stable-pages) (origin-pages o n)) (sym all) (subst (HoldsPages _) e (f .stable-pages)))
       (subst (λ q. HoldsLog (q .stable-log) []) (sym all) (f .stable-log))
-      (subst (HoldsPages _) e (pages-hold pages)) k
+      (subst (λ xs. HoldsWork (work-bytes (map page pages) (relinked pages [])) xs (relinked xs [])) e (work-hold pages (relinked pages []))) k
 
   formatted-inv : Inv (formatted l d)
-  unfolding started first-slides call call-by outcome format-areas done made n m formatted-origin
+  unfolding started first-slides call call-by outcome format-areas start-side done made n m formatted-origin
   formatted-inv =
       let g = sizes .least-pages in
       subst (λ b. Inv (let r = call-by b format l d in record { lent = lent-after (length (r .stores)) r l; desk = r .desk; book = new-book []; since-cut = false })) (sym lens) (done-inv formatted-origin (formatted-pages n) (omega arith) (sym (formatted-is n (omega arith))))
 
   loaded-inv : (ks vs : List ℕ) → of-32-bits (load ks vs) ≡ true → passed (outcome (load ks vs) (read-areas l) d .answer) ≡ true → Inv (started (load ks vs) l d)
-  unfolding started first-slides call call-by outcome load-areas load-by done made n m
+  unfolding started first-slides call call-by outcome load-areas load-by start-side done made n m
   loaded-inv ks vs fits q =
       let a = read-areas l in
       let s = load-starts ks vs a d q fits (sizes .most-pages) in
@@ -130,7 +135,7 @@ module _ (l : Lent) (d : Desk) (lens : lengths-ok l ≡ true) where
       let i : Inv (done pages (columns ks vs)) = subst (λ es. Inv (done pages es)) (s .slides-are) (done-inv (s .origin) pages (s .enough) (s .pages-are)) in
       let after : (o : Option Refusal) → World = λ o.
       let y = load-by o ks vs a in
-      let r : Result = record { answer = y .answer; work-pages = pages-bytes (y .work .pages); work-log = log-bytes (y .work .log); desk = y .desk; stores = y .stores } in
+      let r : Result = record { answer = y .answer; work-pages = work-bytes (y .work .pages) (y .work .lefts); work-log = log-bytes (y .work .log); desk = y .desk; stores = y .stores } in
       record { lent = lent-after (length (r .stores)) r l; desk = r .desk; book = new-book (columns ks vs); since-cut = false } in
       subst (λ b. Inv (let r = call-by b (load ks vs) l d in record { lent = lent-after (length (r .stores)) r l; desk = r .desk; book = new-book (columns ks vs); since-cut = false })) (sym lens)
       (subst (λ o. Inv (after o)) (sym (load-passes ks vs a d q)) i)
@@ -216,17 +221,22 @@ module _ (w : World) (i : Inv w) (lens : lengths-ok (w .lent) ≡ true) where
       let h = ranged-history-trail (i .origin) k most (f .trail) st (omega arith) (subst (RangedHistory (i .origin) k) (sym l) (sure .ranged)) in
       ranged-standing (i .origin) k most (restarted (stored w)) (slides-after (i .origin) (i .log)) (f .standing) h .pages
 
-  read-back : (xs : List Page) → AllPagesFit xs → pages-of (read-pages (pages-bytes (map page xs))) ≡ xs
-  read-back xs h = pages-read-of (length xs) xs (pages-hold xs) (pages-length xs) h ∙ filled-whole (length xs) xs refl
+  -- They are read back, with their links.
+  read-back : (xs : List Page) (ls : List ℕ) → AllLinks (paired xs ls) → pages-of (read-work (work-bytes (map page xs) ls)) ≡ xs
+  read-back xs ls h = ap pages-of (work-read (length xs) xs ls (work-hold xs ls) (work-length xs ls) h) ∙ pages-back (filled (length xs) xs) ∙ filled-whole (length xs) xs refl
 
   pub leaves : LeavesAreSlides w
-  unfolding call-by run-side
+  unfolding call-by
   leaves e =
       let z : restarted (stored w) .stop ≡ 0 = sym reason-is ∙ e in
       let f = finished (i .origin) k s least most (i .log) (sure .history) (stored w) (w .desk) shows z in
-      ap (λ r. leaf-records (pages-of (read-pages (r .work-pages)))) (result-by restart w true lens)
-      ∙ ap (λ r. leaf-records (pages-of (read-pages (pages-bytes (r .pages))))) (restart-work (i .origin) k s least most (i .log) (sure .history) (stored w) (w .desk) shows z)
-      ∙ ap leaf-records (read-back (restarted (stored w) .pages) (pages-fit z)) ∙ f .leaves ∙ sym (i .slides)
+      let xs = pages-after (i .origin) k (restarted (stored w) .log) in
+      let ls = relinked xs [] in
+      let x = f .standing .history in
+      let fit = all-links xs ls (relinked-length xs []) (λ p h. history-linked (i .origin) k most (restarted (stored w) .log) x p) (subst AllPagesFit (f .standing .pages) (pages-fit z)) in
+      ap (λ r. leaf-records (pages-of (read-work (r .work-pages)))) (result-by restart w true lens)
+      ∙ ap (λ r. leaf-records (pages-of (read-work (work-bytes (r .pages) (r .lefts))))) (restart-work (i .origin) k s least most (i .log) (sure .history) (stored w) (w .desk) shows z ∙ run-left (i .origin) k s most (restarted (stored w)) (f .standing .pages) x)
+      ∙ ap leaf-records (read-back xs ls fit ∙ sym (f .standing .pages)) ∙ f .leaves ∙ sym (i .slides)
 
   pub wants : WantsExactly w
   unfolding redone
@@ -286,6 +296,7 @@ start-keeps begin l d lens f fits p = clash (sym f)
 start-keeps restart l d lens f fits p = clash (sym f)
 start-keeps (fetch n k) l d lens f fits p = clash (sym f)
 start-keeps (next n k) l d lens f fits p = clash (sym f)
+start-keeps (previous n k) l d lens f fits p = clash (sym f)
 start-keeps (insert n k v) l d lens f fits p = clash (sym f)
 start-keeps (delete n k) l d lens f fits p = clash (sym f)
 start-keeps (commit n) l d lens f fits p = clash (sym f)

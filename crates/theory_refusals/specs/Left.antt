@@ -12,9 +12,9 @@ use Rattle.def_model.specs.declared.Refusal.{Refusal}
 use Rattle.def_model.specs.declared.Answer.the-variants.{Refused}
 use Rattle.def_model.specs.Areas.{Areas, zero-side}
 use Rattle.def_model.specs.Answers.{Outcome, Check, first-broken, refusal-number}
-use Rattle.def_model.specs.Calls.{begin-by, begin-batch, fetch-by, fetch-slide, next-slide-by, next-slide, insert-by, insert-slide, delete-by, delete-slide, commit-by, commit-batch, abort-by, abort-batch, write-out-by, write-out-page, latest-by, mark-batch, return-by, return-batch, load-by, load-areas}
+use Rattle.def_model.specs.Calls.{begin-by, begin-batch, fetch-by, fetch-slide, next-slide-by, previous-slide-by, next-slide, previous-slide, insert-by, insert-slide, delete-by, delete-slide, commit-by, commit-batch, abort-by, abort-batch, write-out-by, write-out-page, latest-by, mark-batch, return-by, return-batch, load-by, load-areas}
 use Rattle.def_model.specs.Restart.{restart-checks, restart-by, restart-areas}
-use Rattle.def_model.specs.OnBytes.{Call, format, begin, restart, fetch, next, insert, delete, commit, abort, write-out, outcome, take-mark, return-to, load}
+use Rattle.def_model.specs.OnBytes.{Call, format, begin, restart, fetch, next, previous, insert, delete, commit, abort, write-out, outcome, take-mark, return-to, load}
 use Rattle.def_recovery.specs.Events.{is-format, is-restart}
 use Rattle.theory_refusals.specs.Order.{checks}
 
@@ -50,13 +50,14 @@ restart-zeroes a r e = of-broken (zeroes restart) (restart-checks a) r refl e
 
 -- WHAT A REFUSED CALL LEAVES, a clause a call.
 pub refused : (c : Call) (a : Areas) (d : Desk) (r : Refusal) → first-broken (checks c a d) ≡ some r → outcome c a d ≡ left c r a d
-unfolding left-by zeroes empties is-format is-restart checks first-broken outcome load-areas load-by begin-batch begin-by fetch-slide fetch-by next-slide next-slide-by insert-slide insert-by delete-slide delete-by commit-batch commit-by abort-batch abort-by mark-batch latest-by return-batch return-by write-out-page write-out-by restart-areas restart-by
+unfolding left-by zeroes empties is-format is-restart checks first-broken outcome load-areas load-by begin-batch begin-by fetch-slide fetch-by next-slide previous-slide next-slide-by previous-slide-by insert-slide insert-by delete-slide delete-by commit-batch commit-by abort-batch abort-by mark-batch latest-by return-batch return-by write-out-page write-out-by restart-areas restart-by
 refused format a d r e = none-some e
 refused (load ks vs) a d r e = ap (λ o. load-by o ks vs a) e
 refused begin a d r e = ap (λ o. begin-by o a d) e
 refused restart a d r e = ap (λ o. restart-by o a) e ∙ ap (λ z. left-by z true r a d) (sym (restart-zeroes a r e))
 refused (fetch b k) a d r e = ap (λ o. fetch-by o k a d) e
 refused (next b k) a d r e = ap (λ o. next-slide-by o k a d) e
+refused (previous b k) a d r e = ap (λ o. previous-slide-by o k a d) e
 refused (insert b k v) a d r e = ap (λ o. insert-by o b k v a d) e
 refused (delete b k) a d r e = ap (λ o. delete-by o b k a d) e
 refused (commit b) a d r e = ap (λ o. commit-by o b a d) e

@@ -5,3 +5,4 @@ pub mod Left
 pub mod Lossless
 pub mod OnBytes
 pub mod ZeroKey
+pub mod StoredLink

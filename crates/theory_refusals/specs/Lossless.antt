@@ -4,11 +4,12 @@ use mathlib.Core.Path.{_≡_, refl, ap, _∙_}
 use mathlib.Core.List.{List, [], _∷_, _++_, map}
 use native.Mathlib.Omega.{arith}
 use lib.ListN.{length, take, drop, take-append-drop, length-drop}
-use Rattle.def_layout.specs.PageBytes.{read-block, block-bytes}
+use Rattle.def_layout.specs.PageBytes.{read-block, left-in, without-left, with-left}
 use Rattle.def_layout.specs.Sizes.{page-size, slot-size}
 use Rattle.def_layout.specs.RecordBytes.{read-slot, slot-bytes}
-use Rattle.def_model.specs.OnBytes.{parts, joined, read-pages, read-log, pages-bytes, log-bytes}
+use Rattle.def_model.specs.OnBytes.{parts, joined, read-work, read-lefts, read-log, work-parts, work-bytes, log-bytes}
 use Rattle.law_bytes.specs.PageBytes.{block-bytes-back}
+use Rattle.law_bytes.specs.LeftLinks.{left-back}
 use Rattle.law_bytes.specs.RecordBytes.{slot-bytes-back}
 use Rattle.law_areas.specs.Parts.{mul-up}
 
@@ -24,11 +25,16 @@ map-back : {A : Type 0} (f : List ℕ → A) (g : A → List ℕ) → ((b : List
 map-back f g h [] = refl
 map-back f g h (b ∷ bs) = λ i. h b i ∷ map-back f g h bs i
 
-pub pages-lossless : (n : ℕ) (b : List ℕ) → length b ≡ page-size * n → pages-bytes (read-pages b) ≡ b
-unfolding pages-bytes read-pages
-pages-lossless n b e =
+-- Working pages: without their left links, and with them again.
+pub work-lossless : (n : ℕ) (b : List ℕ) → length b ≡ page-size * n → work-bytes (read-work b) (read-lefts b) ≡ b
+unfolding work-bytes read-work read-lefts work-parts
+work-lossless n b e =
     let q : length b / page-size ≡ n = omega arith in
-    ap joined (map-back read-block block-bytes block-bytes-back (parts (length b / page-size) page-size b)) ∙ ap (λ k. joined (parts k page-size b)) q ∙ joined-parts n page-size b e
+    ap joined (each (parts (length b / page-size) page-size b)) ∙ ap (λ k. joined (parts k page-size b)) q ∙ joined-parts n page-size b e
+  where
+    each : (bs : List (List ℕ)) → work-parts (map (λ x. read-block (without-left x)) bs) (map left-in bs) ≡ bs
+    each [] = refl
+    each (x ∷ bs) = λ i. (ap (with-left (left-in x)) (block-bytes-back (without-left x)) ∙ left-back x) i ∷ each bs i
 
 pub log-lossless : (m : ℕ) (b : List ℕ) → length b ≡ slot-size * m → log-bytes (read-log b) ≡ b
 unfolding log-bytes read-log

@@ -4,24 +4,27 @@ use mathlib.Core.Path.{_≡_, refl, sym, ap, _∙_, subst}
 use mathlib.Core.Bool.{Bool, true, false}
 use mathlib.Core.List.{[]}
 use mathlib.Core.Option.{some}
-use lib.ListN.{length}
+use lib.ListN.{length, replicate}
 use Rattle.def_base.specs.Tests.{pick, Case, yes!, no!, case, some-inj}
 use Rattle.def_layout.specs.declared.Desk.{Desk}
 use Rattle.def_layout.specs.Desks.{empty-desk}
 use Rattle.def_layout.specs.Numbers.{zeros}
+use Rattle.def_layout.specs.Pages.{zero-page}
+use Rattle.def_layout.specs.PageBytes.{page}
 use Rattle.def_layout.specs.Sizes.{page-size, slot-size}
 use Rattle.def_model.specs.declared.Refusal.{Refusal}
 use Rattle.def_model.specs.declared.Refusal.the-variants.{Lengths}
 use Rattle.def_model.specs.declared.Answer.the-variants.{Refused}
 use Rattle.def_model.specs.Answers.{Outcome, refusal-number}
-use Rattle.def_model.specs.OnBytes.{Call, format, begin, restart, fetch, next, insert, delete, commit, abort, write-out, Lent, Result, call, call-by, refused-desk, lengths-ok, read-areas, read-pages, read-log, pages-bytes, log-bytes, outcome, take-mark, return-to, load}
+use Rattle.def_model.specs.OnBytes.{Call, format, begin, restart, fetch, next, previous, insert, delete, commit, abort, write-out, Lent, Result, call, call-by, refused-desk, lengths-ok, read-areas, read-work, read-log, work-bytes, log-bytes, outcome, take-mark, return-to, load}
 use Rattle.def_recovery.specs.Events.{is-format, is-restart}
 use Rattle.law_areas.specs.Lengths.{lengths-said}
-use Rattle.law_areas.specs.Pages.{read-pages-length, zero-pages-bytes}
+use Rattle.law_areas.specs.Pages.{zero-pages-bytes}
+use Rattle.law_areas.specs.Working.{work-unlinked, read-work-length}
 use Rattle.law_areas.specs.Logs.{read-log-length, empty-bytes}
 use Rattle.theory_refusals.specs.Order.{refusal-in, first-refused}
 use Rattle.theory_refusals.specs.Left.{zeroes, empties, left-by, refused}
-use Rattle.theory_refusals.specs.Lossless.{pages-lossless, log-lossless}
+use Rattle.theory_refusals.specs.Lossless.{work-lossless, log-lossless}
 
 -- 01: "A refusal gives zeros for other answers and changes nothing, except that restart's 3 to 18 zero the working areas; a refused format or
 -- restart gives an empty desk." Nothing is stored, so the stable areas stay too.
@@ -47,6 +50,7 @@ of-lengths begin l d = refl
 of-lengths restart l d = refl
 of-lengths (fetch b k) l d = refl
 of-lengths (next b k) l d = refl
+of-lengths (previous b k) l d = refl
 of-lengths (insert b k v) l d = refl
 of-lengths (delete b k) l d = refl
 of-lengths (commit b) l d = refl
@@ -57,7 +61,7 @@ of-lengths (return-to b m) l d = refl
 
 -- An outcome, written as bytes.
 abbrev pub on-bytes : Outcome → Result
-on-bytes o = record { answer = o .answer; work-pages = pages-bytes (o .work .pages); work-log = log-bytes (o .work .log); desk = o .desk; stores = o .stores }
+on-bytes o = record { answer = o .answer; work-pages = work-bytes (o .work .pages) (o .work .lefts); work-log = log-bytes (o .work .log); desk = o .desk; stores = o .stores }
 
 -- What typed areas are left as is, on bytes, the same.
 left-bytes : (z y : Bool) (r : Refusal) (l : Lent) (d : Desk) → lengths-ok l ≡ true → on-bytes (left-by z y r (read-areas l) d) ≡ left-lent-by z y r l d
@@ -66,7 +70,7 @@ left-bytes false y r l d e =
     let n = lengths-said l e in
     λ i. record {
       answer = Refused r;
-      work-pages = pages-lossless _ (l .work-pages) (n .work-pages) i;
+      work-pages = work-lossless _ (l .work-pages) (n .work-pages) i;
       work-log = log-lossless _ (l .work-log) (n .work-log) i;
       desk = pick y empty-desk d;
       stores = [];
@@ -75,7 +79,9 @@ left-bytes true y r l d e =
     let n = lengths-said l e in
     λ i. record {
       answer = Refused r;
-      work-pages = (zero-pages-bytes (length (read-pages (l .work-pages))) ∙ ap zeros (ap (page-size *_) (read-pages-length _ (l .work-pages) (n .work-pages)) ∙ sym (n .work-pages))) i;
+      work-pages =
+          (work-unlinked (replicate (length (read-work (l .work-pages))) (page zero-page)) (length (read-work (l .work-pages))) ∙ zero-pages-bytes (length (read-work (l .work-pages)))
+          ∙ ap zeros (ap (page-size *_) (read-work-length _ (l .work-pages) (n .work-pages)) ∙ sym (n .work-pages))) i;
       work-log = (empty-bytes (length (read-log (l .work-log))) ∙ ap zeros (ap (slot-size *_) (read-log-length _ (l .work-log) (n .work-log)) ∙ sym (n .work-log))) i;
       desk = pick y empty-desk d;
       stores = [];

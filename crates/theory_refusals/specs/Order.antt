@@ -17,9 +17,9 @@ use Rattle.def_model.specs.Areas.{Areas}
 use Rattle.def_model.specs.Answers.{refusal-number, Check, check, first-broken, passed}
 use Rattle.def_model.specs.Lookup.{next-above}
 use Rattle.def_model.specs.Sound.{work-pages}
-use Rattle.def_model.specs.Calls.{format-areas, kept-run, stored-run, begin-checks, begin-by, begin-batch, fetch-checks, fetch-by, fetch-slide, next-checks, next-answer, next-slide-by, next-slide, insert-checks, insert-by, insert-slide, delete-checks, delete-by, delete-slide, commit-checks, commit-by, commit-batch, abort-checks, abort-by, abort-batch, mark-checks, latest-by, mark-batch, return-checks, return-by, return-batch, write-out-checks, write-out-by, write-out-page, load-checks, load-by, load-areas}
+use Rattle.def_model.specs.Calls.{before, format-areas, kept-run, stored-run, begin-checks, begin-by, begin-batch, fetch-checks, fetch-by, fetch-slide, next-checks, previous-checks, next-answer, next-slide-by, previous-slide-by, next-slide, previous-slide, insert-checks, insert-by, insert-slide, delete-checks, delete-by, delete-slide, commit-checks, commit-by, commit-batch, abort-checks, abort-by, abort-batch, mark-checks, latest-by, mark-batch, return-checks, return-by, return-batch, write-out-checks, write-out-by, write-out-page, load-checks, load-by, load-areas}
 use Rattle.def_model.specs.Restart.{restart-checks, restart-by, restart-areas}
-use Rattle.def_model.specs.OnBytes.{Call, format, begin, restart, fetch, next, insert, delete, commit, abort, write-out, take-mark, return-to, outcome, Lent, read-areas, lengths-ok, call, call-by, load}
+use Rattle.def_model.specs.OnBytes.{Call, format, begin, restart, fetch, next, previous, insert, delete, commit, abort, write-out, take-mark, return-to, outcome, Lent, read-areas, lengths-ok, call, call-by, load}
 
 -- What each call checks, beside the lengths of the areas.
 unfoldable pub checks : Call → Areas → Desk → List Check
@@ -29,6 +29,7 @@ checks begin a d = begin-checks a d
 checks restart a d = restart-checks a
 checks (fetch b k) a d = fetch-checks b k a d
 checks (next b k) a d = next-checks b k a d
+checks (previous b k) a d = previous-checks b k a d
 checks (insert b k v) a d = insert-checks b k a d
 checks (delete b k) a d = delete-checks b k a d
 checks (commit b) a d = commit-checks b a d
@@ -54,13 +55,14 @@ rises n (c ∷ cs) = ltb n (place (c .says)) && rises (place (c .says)) cs
 
 -- IN NUMBER ORDER, of every call.
 pub checks-rise : (c : Call) (l : Lent) (d : Desk) → rises 0 (all-checks c l d) ≡ true
-unfolding rises refusal-number checks load-checks begin-checks restart-checks fetch-checks next-checks insert-checks delete-checks commit-checks abort-checks mark-checks return-checks write-out-checks
+unfolding rises refusal-number checks load-checks begin-checks restart-checks fetch-checks next-checks previous-checks insert-checks delete-checks commit-checks abort-checks mark-checks return-checks write-out-checks
 checks-rise format l d = refl
 checks-rise (load ks vs) l d = refl
 checks-rise begin l d = refl
 checks-rise restart l d = refl
 checks-rise (fetch b k) l d = refl
 checks-rise (next b k) l d = refl
+checks-rise (previous b k) l d = refl
 checks-rise (insert b k v) l d = refl
 checks-rise (delete b k) l d = refl
 checks-rise (commit b) l d = refl
@@ -101,7 +103,7 @@ not-passed (Refused r) p = (r, refl)
 
 -- The typed areas' answer.
 pub first-refused : (c : Call) (a : Areas) (d : Desk) → refusal-in (outcome c a d .answer) ≡ first-broken (checks c a d)
-unfolding refusal-in checks first-broken outcome format-areas load-areas load-by begin-batch begin-by kept-run stored-run fetch-slide fetch-by next-slide next-slide-by next-answer insert-slide insert-by delete-slide delete-by commit-batch commit-by abort-batch abort-by mark-batch latest-by return-batch return-by write-out-page write-out-by restart-areas restart-by
+unfolding refusal-in checks first-broken outcome format-areas load-areas load-by begin-batch begin-by kept-run stored-run fetch-slide fetch-by next-slide previous-slide next-slide-by previous-slide-by next-answer insert-slide insert-by delete-slide delete-by commit-batch commit-by abort-batch abort-by mark-batch latest-by return-batch return-by write-out-page write-out-by restart-areas restart-by
 first-refused format a d = refl
 first-refused (load ks vs) a d = go (first-broken (load-checks ks vs a))
   where
@@ -131,6 +133,15 @@ first-refused (next b k) a d = go (first-broken (next-checks b k a d))
 
     go : (o : Option Refusal) → refusal-in (next-slide-by o k a d .answer) ≡ o
     go none = found (next-above k (work-pages a))
+    go (some r) = refl
+first-refused (previous b k) a d = go (first-broken (previous-checks b k a d))
+  where
+    found : (e : Option Entry) → refusal-in (next-answer e) ≡ none
+    found none = refl
+    found (some e) = refl
+
+    go : (o : Option Refusal) → refusal-in (previous-slide-by o k a d .answer) ≡ o
+    go none = found (before k a)
     go (some r) = refl
 first-refused (insert b k v) a d = go (first-broken (insert-checks b k a d))
   where

@@ -12,9 +12,9 @@ use Rattle.def_layout.specs.declared.Desk.{Desk}
 use Rattle.def_model.specs.declared.Refusal.the-variants.{Lengths, ZeroKey, ColumnsDiffer}
 use Rattle.def_model.specs.declared.Answer.the-variants.{Refused}
 use Rattle.def_model.specs.Answers.{refusal-number, Check, check, first-broken}
-use Rattle.def_model.specs.Calls.{begin-checks, fetch-checks, next-checks, insert-checks, delete-checks, commit-checks, abort-checks, mark-checks, return-checks, write-out-checks, load-checks}
+use Rattle.def_model.specs.Calls.{begin-checks, fetch-checks, next-checks, previous-checks, insert-checks, delete-checks, commit-checks, abort-checks, mark-checks, return-checks, write-out-checks, load-checks}
 use Rattle.def_model.specs.Restart.{restart-checks}
-use Rattle.def_model.specs.OnBytes.{Call, format, begin, restart, fetch, next, insert, delete, commit, abort, write-out, take-mark, return-to, Lent, read-areas, lengths-ok, call, load}
+use Rattle.def_model.specs.OnBytes.{Call, format, begin, restart, fetch, next, previous, insert, delete, commit, abort, write-out, take-mark, return-to, Lent, read-areas, lengths-ok, call, load}
 use Rattle.def_recovery.specs.Events.{is-format, is-restart}
 use Rattle.theory_refusals.specs.Order.{checks, all-checks, refused-exactly}
 use Rattle.theory_refusals.specs.Left.{zeroes, empties}
@@ -51,7 +51,7 @@ pub data AsksZero : Call → Type 0 where
 
 -- 7 as an answer means that.
 pub zero-alone : (c : Call) (l : Lent) (d : Desk) → call c l d .answer ≡ Refused ZeroKey → AsksZero c
-unfolding checks load-checks begin-checks restart-checks fetch-checks next-checks insert-checks delete-checks commit-checks abort-checks mark-checks return-checks write-out-checks says-7 any refusal-number first-broken after-first
+unfolding checks load-checks begin-checks restart-checks fetch-checks next-checks previous-checks insert-checks delete-checks commit-checks abort-checks mark-checks return-checks write-out-checks says-7 any refusal-number first-broken after-first
 zero-alone c l d e = go c (refused-exactly c l d ZeroKey .0 e)
   where
     -- It says no 7, so that is not what was broken first.
@@ -73,6 +73,7 @@ zero-alone c l d e = go c (refused-exactly c l d ZeroKey .0 e)
     go restart e = not-7 (all-checks restart l d) refl e
     go (fetch b k) e = not-7 (all-checks (fetch b k) l d) refl e
     go (next b k) e = not-7 (all-checks (next b k) l d) refl e
+    go (previous b k) e = not-7 (all-checks (previous b k) l d) refl e
     go (insert b k v) e = by-key (eqb k 0) refl e
       where
         by-key : (z : Bool) → eqb k 0 ≡ z → pick (not (lengths-ok l)) (some Lengths) (pick z (some ZeroKey) (first-broken (after-first (insert-checks b k (read-areas l) d)))) ≡ some ZeroKey → AsksZero (insert b k v)

@@ -72,7 +72,7 @@ two-cases = play (ask (commit 1) ∷ ask begin ∷ ask (delete 4 5) ∷ ask (com
 
 -- After a cut the working pages are those of an earlier moment, before the deletion. A third case goes on with them, with no restart.
 earlier-pages : Machine
-earlier-pages = record { areas = record { work = record { pages = one-slide .areas .work .pages; log = two-cases .areas .work .log }; stable = two-cases .areas .stable }; desk = two-cases .desk; answers = two-cases .answers }
+earlier-pages = record { areas = record { work = record { pages = one-slide .areas .work .pages; lefts = one-slide .areas .work .lefts; log = two-cases .areas .work .log }; stable = two-cases .areas .stable }; desk = two-cases .desk; answers = two-cases .answers }
 
 gone-on : Machine
 gone-on = play (ask begin ∷ ask (insert 7 9 9) ∷ ask (commit 7) ∷ ask (write-out 1) ∷ []) earlier-pages

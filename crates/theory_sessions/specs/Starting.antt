@@ -9,32 +9,35 @@ use lib.Seq.{take-all}
 use Rattle.def_layout.specs.declared.Desk.{Desk}
 use Rattle.def_layout.specs.Desks.{empty-desk}
 use Rattle.def_layout.specs.Numbers.{zeros}
-use Rattle.def_layout.specs.Pages.{zero-page}
+use Rattle.def_layout.specs.Pages.{zero-page, map-bits}
 use Rattle.def_layout.specs.PageBytes.{page}
 use Rattle.def_layout.specs.RecordBytes.{empty}
 use Rattle.def_layout.specs.Sizes.{page-size, slot-size}
 use Rattle.def_model.specs.declared.Answer.the-variants.{Done}
-use Rattle.def_model.specs.Areas.{Store, zero-side, store-some, store-all}
+use Rattle.def_model.specs.Areas.{Side, Store, store-some, store-all}
+use Rattle.def_model.specs.Links.{relinked}
 use Rattle.def_model.specs.Answers.{Outcome, passed}
 use Rattle.def_model.specs.Log.{slots-from, log-area}
 use Rattle.def_model.specs.Redo.{replay}
-use Rattle.def_model.specs.Calls.{formatted-pages, format-stores, format-areas}
-use Rattle.def_model.specs.OnBytes.{format, outcome, Lent, Result, call, call-by, read-areas, pages-bytes, log-bytes, lent-after, store-all-bytes}
+use Rattle.def_model.specs.Calls.{start-side, formatted-pages, format-stores, format-areas}
+use Rattle.def_model.specs.OnBytes.{format, outcome, Lent, Result, call, call-by, read-areas, pages-bytes, work-bytes, log-bytes, lent-after, store-all-bytes}
 use Rattle.def_recovery.specs.Book.{new-book}
 use Rattle.def_recovery.specs.Events.{World, started, first-slides, formatted, is-format, of-32-bits}
 use Rattle.def_sessions.specs.Play.{ended, new}
 use Rattle.law_bytes.specs.Pieces.{All}
 use Rattle.law_areas.specs.Lengths.{Lengths, lengths-enough}
 use Rattle.law_areas.specs.Typed.{formatted-length}
-use Rattle.law_areas.specs.Pages.{AllPagesFit, zero-pages-read, read-pages-length}
+use Rattle.law_areas.specs.Pages.{AllPagesFit, zero-pages-read}
+use Rattle.law_areas.specs.Working.{read-work-length}
 use Rattle.law_areas.specs.Logs.{AllFit, empty-log-read, read-log-length}
 use Rattle.law_areas.specs.Formatting.{format-bytes}
 use Rattle.theory_history.specs.Start.{pages-after}
+use Rattle.theory_history.specs.Growing.{start-history}
 use Rattle.theory_history.specs.FormattedOrigin.{formatted-origin, formatted-is}
 use Rattle.theory_ranges.specs.Histories.{ranged-history-start, ranged-now}
 use Rattle.theory_recovery.specs.Theorem.{begun}
 use Rattle.theory_sessions.specs.StoresRead.{StoreFits, stores-read, fits-first, format-fits}
-use Rattle.theory_sessions.specs.Leaving.{SideRead, typed-side}
+use Rattle.theory_sessions.specs.Leaving.{SideRead, held-read}
 use Rattle.theory_sessions.specs.Tie.{running, Tied}
 
 formatted-fit : (n : ℕ) → 2 ≤ n → AllPagesFit (formatted-pages n)
@@ -43,10 +46,10 @@ formatted-fit n h = subst AllPagesFit (formatted-is n h) (ranged-now formatted-o
 
 -- What a formatting of k pages and s slots comes to.
 abbrev made : ℕ → ℕ → Outcome
-made k s = record { answer = Done; work = record { pages = map page (formatted-pages k); log = replicate s empty }; desk = empty-desk; stores = format-stores (formatted-pages k) s }
+made k s = record { answer = Done; work = start-side (formatted-pages k) s; desk = empty-desk; stores = format-stores (formatted-pages k) s }
 
 -- What is stored does not depend on what stood there.
-module _ (n m : ℕ) (least : 2 ≤ n) where
+module _ (n m : ℕ) (least : 2 ≤ n) (most : n ≤ map-bits) where
   ts : List Store
   ts = format-stores (formatted-pages n) m
 
@@ -54,12 +57,15 @@ module _ (n m : ℕ) (least : 2 ≤ n) where
   unfolding ts
   fits = format-fits n m (formatted-pages n) (formatted-fit n least) (formatted-length n least)
 
+  abbrev zeros-stored : Side
+  zeros-stored = record { pages = replicate n (page zero-page); lefts = []; log = replicate m empty }
+
   zero-lent : Lent
   zero-lent = record { work-pages = zeros (page-size * n); stable-pages = zeros (page-size * n); work-log = zeros (slot-size * m); stable-log = zeros (slot-size * m) }
 
-  zero-stable : read-areas zero-lent .stable ≡ zero-side n m
+  zero-stable : read-areas zero-lent .stable ≡ zeros-stored
   unfolding zero-lent read-areas
-  zero-stable = λ i. record { pages = zero-pages-read n i; log = empty-log-read m i }
+  zero-stable = λ i. record { pages = zero-pages-read n i; lefts = []; log = empty-log-read m i }
 
   formatted-lent : Lent → Lent
   formatted-lent l = record { work-pages = l .work-pages; stable-pages = pages-bytes (map page (formatted-pages n)); work-log = l .work-log; stable-log = zeros (slot-size * m) }
@@ -68,7 +74,7 @@ module _ (n m : ℕ) (least : 2 ≤ n) where
   unfolding ts formatted-lent
   stored-lent l a b = format-bytes (formatted-pages n) m l (a ∙ ap (λ x. page-size * x) (sym (formatted-length n least))) b
 
-  same-stable : (l : Lent) → length (l .stable-pages) ≡ page-size * n → length (l .stable-log) ≡ slot-size * m → read-areas (store-all-bytes ts l) .stable ≡ store-all ts (zero-side n m)
+  same-stable : (l : Lent) → length (l .stable-pages) ≡ page-size * n → length (l .stable-log) ≡ slot-size * m → read-areas (store-all-bytes ts l) .stable ≡ store-all ts zeros-stored
   unfolding zero-lent formatted-lent read-areas
   same-stable l a b =
       let c = length-replicate {A = ℕ} (page-size * n) 0 in
@@ -77,40 +83,46 @@ module _ (n m : ℕ) (least : 2 ≤ n) where
       ∙ sym (ap (λ k. read-areas k .stable) (stored-lent zero-lent c d))
       ∙ stores-read n m ts zero-lent fits c d .side ∙ ap (store-all ts) zero-stable
 
-  same-first : (l : Lent) → length (l .stable-pages) ≡ page-size * n → length (l .stable-log) ≡ slot-size * m → read-areas (store-all-bytes (take (length ts) ts) l) .stable ≡ store-some (length ts) ts (zero-side n m)
+  same-first : (l : Lent) → length (l .stable-pages) ≡ page-size * n → length (l .stable-log) ≡ slot-size * m → read-areas (store-all-bytes (take (length ts) ts) l) .stable ≡ store-some (length ts) ts zeros-stored
   unfolding store-some
-  same-first l a b = let e = take-all (length ts) ts (omega arith) in ap (λ q. read-areas (store-all-bytes q l) .stable) e ∙ same-stable l a b ∙ ap (λ q. store-all q (zero-side n m)) (sym e)
+  same-first l a b = let e = take-all (length ts) ts (omega arith) in ap (λ q. read-areas (store-all-bytes q l) .stable) e ∙ same-stable l a b ∙ ap (λ q. store-all q zeros-stored) (sym e)
 
   made-read : SideRead n m (made n m .work)
-  unfolding AllFit log-area slots-from
+  unfolding AllFit log-area slots-from start-side pages-after replay formatted-origin
   made-read =
+      let o = formatted-origin in
       let e : m - 0 ≡ m = omega arith in
-      subst (λ (k : ℕ). SideRead n m (record { pages = map page (formatted-pages n); log = replicate k empty })) e (typed-side n m (formatted-pages n) [] (formatted-length n least) (omega arith) (formatted-fit n least) tt)
+      let f = formatted-is n least in
+      subst (SideRead n m) (λ i. record { pages = map page (f i); lefts = relinked (f i) []; log = replicate (e i) empty })
+      (held-read o n m most [] (start-history o n least most) (omega arith) (ranged-now o n [] (ranged-history-start o n) .pages) tt)
 
   new-desk : new n m .desk ≡ empty-desk
   unfolding new ended outcome format-areas
   new-desk = refl
 
-  new-areas : new n m .areas ≡ record { work = made n m .work; stable = store-some (length ts) ts (zero-side n m) }
+  new-areas : new n m .areas ≡ record { work = made n m .work; stable = store-some (length ts) ts zeros-stored }
   unfolding new ended outcome format-areas ts
   new-areas =
       let p = length-replicate n (page zero-page) in
       let q = length-replicate m empty in
-      λ i. record { work = made (p i) (q i) .work; stable = store-some (length (made (p i) (q i) .stores)) (made (p i) (q i) .stores) (zero-side n m) }
+      λ i. record { work = made (p i) (q i) .work; stable = store-some (length (made (p i) (q i) .stores)) (made (p i) (q i) .stores) zeros-stored }
 
 -- THE START.
 module _ (n m : ℕ) (l : Lent) (d : Desk) (z : Lengths l n m) where
   least : 2 ≤ n
   least = omega (arith, z .least-pages)
 
+  most : n ≤ map-bits
+  most = z .most-pages
+
   is-made : outcome format (read-areas l) d ≡ made n m
   unfolding outcome format-areas read-areas
-  is-made = let p = read-pages-length n (l .work-pages) (z .work-pages) in let q = read-log-length m (l .work-log) (z .work-log) in λ i. made (p i) (q i)
+  is-made = let p = read-work-length n (l .work-pages) (z .work-pages) in let q = read-log-length m (l .work-log) (z .work-log) in λ i. made (p i) (q i)
 
   -- The world that a formatting leaves, by its outcome.
   world-by : Outcome → World
   world-by o =
-      let r : Result = record { answer = o .answer; work-pages = pages-bytes (o .work .pages); work-log = log-bytes (o .work .log); desk = o .desk; stores = o .stores } in
+      let r : Result = record { answer = o .answer; work-pages = work-bytes (o .work .pages) (o .work .lefts); work-log = log-bytes (o .work .log); desk = o .desk; stores = o .stores } in
       record { lent = lent-after (length (r .stores)) r l; desk = r .desk; book = new-book []; since-cut = false }
 
   formatted-by : formatted l d ≡ world-by (made n m)
@@ -124,9 +136,9 @@ module _ (n m : ℕ) (l : Lent) (d : Desk) (z : Lengths l n m) where
   pub formatted-tied : Tied n m (formatted l d) (new n m .areas) (new n m .desk)
   unfolding world-by lent-after read-areas ts is-format of-32-bits
   formatted-tied =
-      let s = made-read n m least in
-      let t = stores-read n m (take (length (ts n m least)) (ts n m least)) l (fits-first n m (length (ts n m least)) (ts n m least) (fits n m least)) (z .stable-pages) (z .stable-log) in
-      let e = same-first n m least l (z .stable-pages) (z .stable-log) in
+      let s = made-read n m least most in
+      let t = stores-read n m (take (length (ts n m least most)) (ts n m least most)) l (fits-first n m (length (ts n m least most)) (ts n m least most) (fits n m least most)) (z .stable-pages) (z .stable-log) in
+      let e = same-first n m least most l (z .stable-pages) (z .stable-log) in
       record {
         inv = begun format l d refl refl passes;
         lengths = subst (λ (w : World). Lengths (w .lent) n m) (sym formatted-by) (record {
@@ -139,7 +151,7 @@ module _ (n m : ℕ) (l : Lent) (d : Desk) (z : Lengths l n m) where
           least-slots = z .least-slots;
           most-slots = z .most-slots;
         });
-        areas = ap (λ (w : World). read-areas (w .lent)) formatted-by ∙ (λ i. record { work = record { pages = s .pages i; log = s .log i }; stable = e i }) ∙ sym (new-areas n m least);
-        desk = ap (λ (w : World). w .desk) formatted-by ∙ sym (new-desk n m least);
+        areas = ap (λ (w : World). read-areas (w .lent)) formatted-by ∙ (λ i. record { work = record { pages = s .pages i; lefts = s .lefts i; log = s .log i }; stable = e i }) ∙ sym (new-areas n m least most);
+        desk = ap (λ (w : World). w .desk) formatted-by ∙ sym (new-desk n m least most);
         calm = running (ap (λ (w : World). w .since-cut) formatted-by);
       }

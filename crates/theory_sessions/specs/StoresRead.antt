@@ -74,12 +74,12 @@ module _ (n m : ℕ) where
   stores-read (store-page p x ∷ ts) l f a b =
       let t = stores-read ts (store-bytes (store-page p x) l) (f .1) (page-put-length n p x (l .stable-pages) a (f .0 .0) ∙ a) b in
       let e = page-put-read n p x (l .stable-pages) a (f .0 .0) (f .0 .1) in
-      record { pages-length = t .pages-length; log-length = t .log-length; side = t .side ∙ (λ i. store-all ts (record { pages = e i; log = read-log (l .stable-log) })) }
+      record { pages-length = t .pages-length; log-length = t .log-length; side = t .side ∙ (λ i. store-all ts (record { pages = e i; lefts = []; log = read-log (l .stable-log) })) }
   stores-read (store-slot k x ∷ ts) l f a b =
       let (inside, wide, back) = f .0 in
       let t = stores-read ts (store-bytes (store-slot k x) l) (f .1) a (slot-put-length m (slot-of k) x (l .stable-log) b inside wide ∙ b) in
       let e = slot-put-read m (slot-of k) x (l .stable-log) b inside wide back in
-      record { pages-length = t .pages-length; log-length = t .log-length; side = t .side ∙ (λ i. store-all ts (record { pages = read-pages (l .stable-pages); log = e i })) }
+      record { pages-length = t .pages-length; log-length = t .log-length; side = t .side ∙ (λ i. store-all ts (record { pages = read-pages (l .stable-pages); lefts = []; log = e i })) }
 
   -- ---- which stores fit
 

@@ -17,10 +17,10 @@ use Rattle.def_model.specs.declared.Answer.the-variants.{Refused}
 use Rattle.def_model.specs.Areas.{Side, Areas, zero-side, store-some}
 use Rattle.def_model.specs.Answers.{Outcome, first-broken, passed}
 use Rattle.def_model.specs.Restart.{redone-pages, redone, restarted, restart-checks, restart-by, restart-areas}
-use Rattle.def_model.specs.OnBytes.{Call, restart, outcome, Result, call-by, read-areas, read-pages, read-log, lent-after}
+use Rattle.def_model.specs.OnBytes.{Call, restart, outcome, Result, call-by, read-areas, read-pages, read-work, read-lefts, read-log, lent-after}
 use Rattle.def_recovery.specs.Events.{World, Rubble, Granted, is-format, is-restart, of-32-bits, result, end-call, cut-call}
 use Rattle.law_areas.specs.Lengths.{Lengths, lengths-enough}
-use Rattle.law_areas.specs.Pages.{zero-pages-read}
+use Rattle.law_areas.specs.Working.{zero-work-read, zero-lefts-read}
 use Rattle.law_areas.specs.Logs.{empty-log-read}
 use Rattle.theory_calls.specs.Refused.{asks-sound, zeros-unsound}
 use Rattle.theory_recovery.specs.Invariant.{Inv}
@@ -116,7 +116,7 @@ module _ (n m : ℕ) (w : World) (i : Inv w) (z : Lengths (w .lent) n m) (c : Ca
   end-areas =
       let s = stored (length (does c w .stores)) in
       ap (λ (r : Result). read-areas (lent-after (length (r .stores)) r (w .lent))) result-is
-      ∙ (λ k. record { work = record { pages = reads .work .pages k; log = reads .work .log k }; stable = s .side k })
+      ∙ (λ k. record { work = record { pages = reads .work .pages k; lefts = reads .work .lefts k; log = reads .work .log k }; stable = s .side k })
 
   end-desk : end-call c w .desk ≡ does c w .desk
   unfolding end-call call-by
@@ -178,7 +178,7 @@ module _ (n m : ℕ) (w : World) (i : Inv w) (z : Lengths (w .lent) n m) (c : Ca
       cut-stable : read-areas (cut-call c j left w .lent) .stable ≡ store-some j (o .stores) s
       unfolding cut-call call-by lent-after read-areas store-some
       cut-stable =
-          ap (λ (r : Result). record { pages = read-pages (lent-after j r (w .lent) .stable-pages); log = read-log (lent-after j r (w .lent) .stable-log) }) result-is
+          ap (λ (r : Result). record { pages = read-pages (lent-after j r (w .lent) .stable-pages); lefts = []; log = read-log (lent-after j r (w .lent) .stable-log) }) result-is
           ∙ stored j .side ∙ (λ k. store-some j (is k .stores) (shown k))
 
       pub cut-off : (work : Side) → length (work .pages) ≡ n → length (work .log) ≡ m → Cut n m (cut-call c j left w) (record { work = work; stable = store-some j (o .stores) s })
@@ -188,12 +188,13 @@ module _ (n m : ℕ) (w : World) (i : Inv w) (z : Lengths (w .lent) n m) (c : Ca
       pub cut-zeroed : left .work-pages ≡ zeros (page-size * n) → left .work-log ≡ zeros (slot-size * m) → left .desk ≡ empty-desk → Tied n m (cut-call c j left w) (record { work = zero-side n m; stable = store-some j (o .stores) s }) empty-desk
       unfolding cut-call read-areas
       cut-zeroed p q e =
-          let f = ap read-pages p ∙ zero-pages-read n in
+          let f = ap read-work p ∙ zero-work-read n in
+          let u = ap read-lefts p ∙ zero-lefts-read n in
           let h = ap read-log q ∙ empty-log-read m in
           record {
             inv = cut-keeps w i c g j left .inv;
             lengths = cut-lengths;
-            areas = λ k. record { work = record { pages = f k; log = h k }; stable = cut-stable k };
+            areas = λ k. record { work = record { pages = f k; lefts = u k; log = h k }; stable = cut-stable k };
             desk = e;
-            calm = zeroed (λ k. record { pages = f k; log = h k });
+            calm = zeroed (λ k. record { pages = f k; lefts = u k; log = h k });
           }

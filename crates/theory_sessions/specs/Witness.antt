@@ -14,7 +14,7 @@ use Rattle.def_layout.specs.Sizes.{page-size, slot-size}
 use Rattle.def_model.specs.Areas.{pages-of}
 use Rattle.def_model.specs.Answers.{Outcome, answer-numbers}
 use Rattle.def_model.specs.TreeRules.{leaf-records}
-use Rattle.def_model.specs.OnBytes.{begin, restart, insert, delete, commit, write-out, outcome, Lent, call-by, lengths-ok, read-pages}
+use Rattle.def_model.specs.OnBytes.{begin, restart, insert, delete, commit, write-out, outcome, Lent, call-by, lengths-ok, read-work}
 use Rattle.def_recovery.specs.Events
 use Rattle.def_recovery.specs.Events.{World, Rubble, Event, result, Allowed, AllAllowed, happen, happen-all, formatted, is-restart, is-format, of-32-bits}
 use Rattle.def_recovery.specs.Demand3.{reason}
@@ -55,7 +55,7 @@ committed = entry 8 8 ∷ []
 pub record Found (w : World) : Type 0 where
   pub lengths : lengths-ok (w .lent) ≡ true
   pub finishes : reason w ≡ 0
-  pub leaves-are : leaf-records (pages-of (read-pages (result restart w .work-pages))) ≡ committed
+  pub leaves-are : leaf-records (pages-of (read-work (result restart w .work-pages))) ≡ committed
   pub book-is : w .book .slides ≡ committed
 
 -- ---- lists of events in a row
@@ -140,10 +140,10 @@ module _ (l : Lent) (d : Desk) (before after : ℕ → Rubble) (z : Lengths l 16
   unfolding call-by
   last-reason = ap (λ r. answer-numbers (r .answer) .reason) (result-by restart last true lens) ∙ ap (λ o. answer-numbers (o .answer) .reason) is-further ∙ further-reason
 
-  last-leaves : leaf-records (pages-of (read-pages (result restart last .work-pages))) ≡ committed
+  last-leaves : leaf-records (pages-of (read-work (result restart last .work-pages))) ≡ committed
   unfolding call-by
   last-leaves =
-      ap (λ r. leaf-records (pages-of (read-pages (r .work-pages)))) (result-by restart last true lens)
+      ap (λ r. leaf-records (pages-of (read-work (r .work-pages)))) (result-by restart last true lens)
       ∙ ap (λ b. leaf-records (pages-of b)) (call-reads last (tied .inv) 17 84 (tied .lengths) restart (restart-granted last) .work .pages)
       ∙ ap (λ o. leaf-records (pages-of (o .work .pages))) is-further ∙ further-leaves
 

@@ -18,7 +18,7 @@ use Rattle.def_model.specs.Update.{Run}
 use Rattle.def_model.specs.Sound.{sound, same-slots}
 use Rattle.def_model.specs.Loading.{columns, loaded-pages}
 use Rattle.def_model.specs.Answers.{passed}
-use Rattle.def_model.specs.Calls.{run-side, formatted-pages, page-stores, format-stores, format-areas, load-by, load-areas}
+use Rattle.def_model.specs.Calls.{run-side, start-side, formatted-pages, page-stores, format-stores, format-areas, load-by, load-areas}
 use Rattle.def_model.specs.OnBytes.{format, load, outcome}
 use Rattle.def_recovery.specs.Events.{of-32-bits}
 use Rattle.theory_history.specs.Origin.{Origin, origin-pages}
@@ -62,7 +62,7 @@ slots-written (x ∷ xs) pre (o ∷ old) s e l =
     let k : suc (length pre) - 1 ≡ length pre = omega arith in
     let q : set (s .log) (suc (length pre) - 1) x ≡ (pre ++ x ∷ []) ++ old = (λ i. set (e i) (k i) x) ∙ set-seam pre o x old ∙ sym (append-assoc pre (x ∷ []) old) in
     let n : length (pre ++ x ∷ []) ≡ suc (length pre) = length-append pre (x ∷ []) ∙ omega arith in
-    let t : Side = record { pages = s .pages; log = set (s .log) (suc (length pre) - 1) x } in
+    let t : Side = record { pages = s .pages; lefts = s .lefts; log = set (s .log) (suc (length pre) - 1) x } in
     subst (λ z. store-all (slot-stores (suc z) xs) t .log ≡ (pre ++ x ∷ []) ++ xs) n (slots-written xs (pre ++ x ∷ []) old t q (omega arith)) ∙ append-assoc pre (x ∷ []) xs
 
 pub formatted-log : (pages : List Page) (m : ℕ) (s : Side) → length (s .log) ≡ m → store-all (format-stores pages m) s .log ≡ replicate m empty
@@ -75,7 +75,7 @@ formatted-log pages m s e =
 -- AREAS THAT HOLD AN ORIGIN, AND NO RECORDS, ARE SOUND.
 module _ (o : Origin) (n m : ℕ) (least : o .least ≤ n) (few : n ≤ map-bits) (stable : Side) (blank : stable .log ≡ replicate m empty) where
   t : Run
-  t = record { pages = origin-pages o n; log = []; due = 1; room = m; stop = 0 }
+  t = record { pages = origin-pages o n; lefts = []; log = []; due = 1; room = m; stop = 0 }
 
   core : Core n t (slides-after o [])
   unfolding t pages-after replay
@@ -96,11 +96,11 @@ module _ (o : Origin) (n m : ℕ) (least : o .least ≤ n) (few : n ≤ map-bits
   unfolding t open-batches told pending-count
   reserves = let u = used-within (origin-pages o n) in record { slots-free = omega arith; pages-free = omega arith }
 
-  side-is : run-side m t ≡ record { pages = map page (origin-pages o n); log = replicate m empty }
-  unfolding t run-side log-area slots-from
-  side-is = let e : m - 0 ≡ m = omega arith in ap (λ z. record { pages = map page (origin-pages o n); log = replicate z empty }) e
+  side-is : run-side m t ≡ start-side (origin-pages o n) m
+  unfolding t run-side start-side log-area slots-from
+  side-is = let e : m - 0 ≡ m = omega arith in ap (start-side (origin-pages o n)) e
 
-  pub origin-sound : sound (record { work = record { pages = map page (origin-pages o n); log = replicate m empty }; stable = stable }) (desk-of [] 0) ≡ true
+  pub origin-sound : sound (record { work = start-side (origin-pages o n) m; stable = stable }) (desk-of [] 0) ≡ true
   unfolding t desk-of run-side
   origin-sound =
       (λ i. sound (record { work = sym side-is i; stable = stable }) (desk-of [] 0))
@@ -113,7 +113,7 @@ format-sound a d least few equal =
     let n = length (a .work .pages) in
     let m = length (a .work .log) in
     let stable = store-all (format-stores (formatted-pages n) m) (a .stable) in
-    (λ i. sound (record { work = record { pages = map page (sym (formatted-is n least) i); log = replicate m empty }; stable = stable }) (desk-of [] 0))
+    (λ i. sound (record { work = start-side (sym (formatted-is n least) i) m; stable = stable }) (desk-of [] 0))
     ∙ origin-sound formatted-origin n m least few stable (formatted-log (formatted-pages n) m (a .stable) equal)
 
 -- A LOADED REGISTER IS SOUND.
@@ -126,7 +126,7 @@ load-sound ks vs a d fits few equal p =
     let x = load-starts ks vs a d p fits few in
     let pages = loaded-pages n (columns ks vs) in
     let stable = store-all (format-stores pages m) (a .stable) in
-    let s : sound (record { work = record { pages = map page pages; log = replicate m empty }; stable = stable }) (desk-of [] 0) ≡ true =
-    (λ i. sound (record { work = record { pages = map page (x .pages-are i); log = replicate m empty }; stable = stable }) (desk-of [] 0))
+    let s : sound (record { work = start-side pages m; stable = stable }) (desk-of [] 0) ≡ true =
+    (λ i. sound (record { work = start-side (x .pages-are i) m; stable = stable }) (desk-of [] 0))
     ∙ origin-sound (x .origin) n m (x .enough) few stable (formatted-log pages m (a .stable) equal) in
     subst (λ o. let y = load-by o ks vs a in sound (record { work = y .work; stable = store-all (y .stores) (a .stable) }) (y .desk) ≡ true) (sym (load-passes ks vs a d p)) s

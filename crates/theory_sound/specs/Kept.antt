@@ -22,8 +22,8 @@ use Rattle.def_model.specs.Pending.{held}
 use Rattle.def_model.specs.Lookup.{fetched}
 use Rattle.def_model.specs.Update.{emit, put-record, remove-record}
 use Rattle.def_model.specs.Sound.{sound, work-pages, work-log, work-slots, work-open, update-has-slots, update-has-pages, begin-has-slots}
-use Rattle.def_model.specs.Calls.{is-none, run-of, kept-run, stored-run, present, value-or, last-of, zero-key, begin-checks, begin-by, begin-batch, fetch-checks, fetch-by, fetch-slide, next-checks, next-slide-by, next-slide, insert-checks, insert-by, insert-slide, delete-checks, delete-by, delete-slide, commit-checks, commit-by, commit-batch, aborted, abort-checks, abort-by, abort-batch, write-out-checks, write-out-by, write-out-page, mark-checks, latest-by, mark-batch, return-checks, return-by, return-batch, returned}
-use Rattle.def_model.specs.OnBytes.{Call, format, begin, restart, fetch, next, insert, delete, commit, abort, write-out, outcome, take-mark, return-to, load}
+use Rattle.def_model.specs.Calls.{is-none, run-of, kept-run, stored-run, present, value-or, last-of, zero-key, begin-checks, begin-by, begin-batch, fetch-checks, fetch-by, fetch-slide, next-checks, next-slide-by, next-slide, previous-checks, previous-slide-by, previous-slide, insert-checks, insert-by, insert-slide, delete-checks, delete-by, delete-slide, commit-checks, commit-by, commit-batch, aborted, abort-checks, abort-by, abort-batch, write-out-checks, write-out-by, write-out-page, mark-checks, latest-by, mark-batch, return-checks, return-by, return-batch, returned}
+use Rattle.def_model.specs.OnBytes.{Call, format, begin, restart, fetch, next, previous, insert, delete, commit, abort, write-out, outcome, take-mark, return-to, load}
 use Rattle.def_recovery.specs.Events.{is-format, is-restart, fits-32, of-32-bits}
 use Rattle.theory_ledger.specs.Small.{Small}
 use Rattle.theory_calls.specs.Checks.{none-broken, kept-check, some-of, live-batch, absent-of, present-of}
@@ -66,6 +66,14 @@ module _ (a : Areas) (d : Desk) (l : Lendable a) (s : sound a d ≡ true) where
   next-kept b k = go (first-broken (next-checks b k a d))
     where
       go : (o : Option Refusal) → SoundAfter a d (next-slide-by o k a d)
+      go (some r) = s
+      go none = s
+
+  previous-kept : (b k : ℕ) → SoundAfter a d (outcome (previous b k) a d)
+  unfolding outcome previous-slide previous-slide-by store-all
+  previous-kept b k = go (first-broken (previous-checks b k a d))
+    where
+      go : (o : Option Refusal) → SoundAfter a d (previous-slide-by o k a d)
       go (some r) = s
       go none = s
 
@@ -168,6 +176,7 @@ sound-kept restart a d f r k l p = clash r
 sound-kept begin a d f r k l p = begin-kept a d l (asks-sound begin a d f r p) p
 sound-kept (fetch b q) a d f r k l p = fetch-kept a d l (asks-sound (fetch b q) a d f r p) b q
 sound-kept (next b q) a d f r k l p = next-kept a d l (asks-sound (next b q) a d f r p) b q
+sound-kept (previous b q) a d f r k l p = previous-kept a d l (asks-sound (previous b q) a d f r p) b q
 sound-kept (insert b q v) a d f r k l p =
     let (y, u) = and-true (fits-32 q) (fits-32 v) (and-true (fits-32 b) (fits-32 q && fits-32 v) k .1) in
     insert-kept a d l (asks-sound (insert b q v) a d f r p) b q v (true-le q top y) (true-le v top u) p

@@ -25,6 +25,7 @@ use Rattle.theory_ledger.specs.Small.{Small, SmallLines, small-change, small-dr
 use Rattle.theory_room.specs.Restarting.{low-stable}
 use Rattle.law_areas.specs.Lengths.{Lengths, lengths-said}
 use Rattle.law_areas.specs.Pages.{read-pages-length}
+use Rattle.law_areas.specs.Working.{read-work-length}
 use Rattle.law_areas.specs.Logs.{read-log-length}
 use Rattle.theory_sound.specs.SoundKept.{areas-after}
 use Rattle.theory_sound.specs.Kept.{Lendable, sound-kept}
@@ -113,7 +114,7 @@ module _ (l : Lent) (lens : lengths-ok l ≡ true) where
 
   pages-of-work : length (read-areas l .work .pages) ≡ length (l .work-pages) / page-size
   unfolding read-areas
-  pages-of-work = read-pages-length (length (l .work-pages) / page-size) (l .work-pages) (z .work-pages)
+  pages-of-work = read-work-length (length (l .work-pages) / page-size) (l .work-pages) (z .work-pages)
 
   pages-of-stable : length (read-areas l .stable .pages) ≡ length (l .work-pages) / page-size
   unfolding read-areas
@@ -145,6 +146,7 @@ module _ (l : Lent) (lens : lengths-ok l ≡ true) where
   calls-leave-sound OnBytes.begin d k p = sound-kept OnBytes.begin (read-areas l) d refl refl k lendable p
   calls-leave-sound (OnBytes.fetch a b) d k p = sound-kept (OnBytes.fetch a b) (read-areas l) d refl refl k lendable p
   calls-leave-sound (OnBytes.next a b) d k p = sound-kept (OnBytes.next a b) (read-areas l) d refl refl k lendable p
+  calls-leave-sound (OnBytes.previous a b) d k p = sound-kept (OnBytes.previous a b) (read-areas l) d refl refl k lendable p
   calls-leave-sound (OnBytes.insert a b v) d k p = sound-kept (OnBytes.insert a b v) (read-areas l) d refl refl k lendable p
   calls-leave-sound (OnBytes.delete a b) d k p = sound-kept (OnBytes.delete a b) (read-areas l) d refl refl k lendable p
   calls-leave-sound (OnBytes.commit a) d k p = sound-kept (OnBytes.commit a) (read-areas l) d refl refl k lendable p

@@ -22,17 +22,18 @@ use Rattle.def_model.specs.Areas.{Areas, page-in, pages-of}
 use Rattle.def_model.specs.Answers.{Outcome, Check, check, first-broken, refuse}
 use Rattle.def_model.specs.Fit.{found}
 use Rattle.def_model.specs.Batches.{Batch, find-batch, pending-count, unmarked}
-use Rattle.def_model.specs.Pending.{held, held-between}
-use Rattle.def_model.specs.Lookup.{fetched, next-above}
+use Rattle.def_model.specs.Pending.{held, held-between, held-from}
+use Rattle.def_model.specs.Lookup.{fetched, next-above, last-below}
 use Rattle.def_model.specs.TreeRules.{tree-ok, leaf-records, used-pages}
 use Rattle.def_model.specs.Update.{put-record, remove-record}
 use Rattle.def_model.specs.Sound.{sound, reserve, work-pages, work-log, work-slots, work-open, update-has-slots, update-has-pages}
-use Rattle.def_model.specs.Calls.{run-of, run-side, kept-run, unchanged, no-slots, no-pages, is-none, value-or, next-limit, next-answer, last-of, fetch-checks, fetch-by, fetch-slide, next-checks, next-slide-by, next-slide, insert-checks, insert-by, insert-slide, delete-checks, delete-by, delete-slide}
-use Rattle.def_model.specs.OnBytes.{fetch, next, insert, delete, outcome}
+use Rattle.def_model.specs.Calls.{run-of, run-side, kept-run, unchanged, no-slots, no-pages, is-none, value-or, next-limit, next-answer, last-of, fetch-checks, fetch-by, fetch-slide, next-checks, next-slide-by, next-slide, before, previous-limit, previous-checks, previous-slide-by, previous-slide, insert-checks, insert-by, insert-slide, delete-checks, delete-by, delete-slide}
+use Rattle.def_model.specs.OnBytes.{fetch, next, previous, insert, delete, outcome}
 use Rattle.theory_tree.specs.Step.Steps.{by-insert, by-delete}
 use Rattle.theory_update.specs.Laws
 use Rattle.theory_update.specs.Laws.{Ready, put-law, remove-law}
 use Rattle.theory_update.specs.Find.Fetching.{fetched-is, next-above-is}
+use Rattle.theory_update.specs.Find.Backwards.{previous-below-is}
 use Rattle.theory_pages.specs.Layout.{map-laid}
 use Rattle.law_areas.specs.Typed.{pages-back}
 use Rattle.theory_calls.specs.Checks.{sound-parts}
@@ -47,7 +48,7 @@ unfoldable pub list-fetch : Option ℕ → Areas → Desk → Outcome
 list-fetch none a d = refuse Absent a d
 list-fetch (some v) a d = unchanged (Number v) a d
 
--- Next, by the list.
+-- Next and previous, by the list.
 unfoldable pub list-next : Option Entry → Areas → Desk → Outcome
 list-next none a d = refuse Absent a d
 list-next (some e) a d = unchanged (Pair (e .key) (e .val)) a d
@@ -75,6 +76,11 @@ module _ (a : Areas) (d : Desk) (s : sound a d ≡ true) where
   unfolding next-checks is-none
   next-asks b k y f h =
       skip-not (sound a d) Unsound _ s ∙ skip (is-none (find-batch b (work-open a))) NoBatch _ (ap is-none f) ∙ skip (held-between b k (next-limit (next-above k (work-pages a))) (work-open a)) Held _ h
+
+  previous-asks : (b k : ℕ) (y : Batch) → find-batch b (work-open a) ≡ some y → held-from b (previous-limit (before k a)) k (work-open a) ≡ false → first-broken (previous-checks b k a d) ≡ first-broken (check (is-none (before k a)) Absent ∷ [])
+  unfolding previous-checks is-none
+  previous-asks b k y f h =
+      skip-not (sound a d) Unsound _ s ∙ skip (is-none (find-batch b (work-open a))) NoBatch _ (ap is-none f) ∙ skip (held-from b (previous-limit (before k a)) k (work-open a)) Held _ h
 
   insert-asks : (b k : ℕ) → k ≢ 0 → unmarked (find-batch b (work-open a)) ≡ true → held b k (work-open a) ≡ false → first-broken (insert-checks b k a d) ≡ first-broken (check (found (fetched k (work-pages a))) Present ∷ no-slots a ∷ no-pages a ∷ [])
   unfolding insert-checks
@@ -118,6 +124,21 @@ module _ (a : Areas) (d : Desk) (s : sound a d ≡ true) where
       ∙ by (next-above k (work-pages a)) (seek (suc k) (list a)) refl e
     where
       by : (o q : Option Entry) → next-above k (work-pages a) ≡ o → o ≡ q → next-slide-by (first-broken (check (is-none o) Absent ∷ [])) k a d ≡ list-next q a d
+      by none q e w = ap (λ z. list-next z a d) w
+      by (some v) q e w = ap (λ z. unchanged (next-answer z) a d) e ∙ ap (λ z. list-next z a d) w
+
+  -- ---- previous
+
+  pub previous-answers : (b k : ℕ) (y : Batch) → k ≤ top → 0 < length (a .work .pages) → find-batch b (work-open a) ≡ some y → held-from b (previous-limit (last-below k (list a))) k (work-open a) ≡ false
+      → outcome (previous b k) a d ≡ list-next (last-below k (list a)) a d
+  unfolding outcome previous-slide is-none list-next previous-slide-by next-answer first-broken
+  previous-answers b k y kt pos f h =
+      let e = previous-below-is k (work-pages a) (a .work .lefts) tree (sound-parts a d s .lefts) (map-empty pos) kt in
+      ap (λ o. previous-slide-by o k a d)
+      (previous-asks b k y f (ap (λ z. held-from b (previous-limit z) k (work-open a)) e ∙ h))
+      ∙ by (before k a) (last-below k (list a)) refl e
+    where
+      by : (o q : Option Entry) → before k a ≡ o → o ≡ q → previous-slide-by (first-broken (check (is-none o) Absent ∷ [])) k a d ≡ list-next q a d
       by none q e w = ap (λ z. list-next z a d) w
       by (some v) q e w = ap (λ z. unchanged (next-answer z) a d) e ∙ ap (λ z. list-next z a d) w
 

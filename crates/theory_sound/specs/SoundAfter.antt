@@ -84,7 +84,7 @@ module _ (a : Areas) (d : Desk) (s : sound a d ≡ true) (few : length (a .work 
       (stores-ok (record { work = run-side (work-slots a) t; stable = stable }) (desk-of (t .log) (length (t .log))) (t .log) logged (same-area (store-all (log-stores (d .stored) (t .log)) (a .stable)) stable (length (t .log)) (t .log) (sym e) h)) (reserves-hold (work-slots a) (t .pages) (t .log) (open-batches (t .log)) r)
     where
       same-area : (u v : Side) (k : ℕ) (log : List Rec) → u .log ≡ v .log → Stores u k log → Stores v k log
-      same-area u v k log e h = subst (λ z. Stores (record { pages = v .pages; log = z }) k log) e h
+      same-area u v k log e h = subst (λ z. Stores (record { pages = v .pages; lefts = v .lefts; log = z }) k log) e h
 
 -- A page store leaves the log.
 pub page-after : (ts : List Store) (p : ℕ) (x : Page) (s : Side) → store-all (ts ++ store-page p x ∷ []) s .log ≡ store-all ts s .log

@@ -55,7 +55,7 @@ slots-more q (r ∷ rest) pre s e =
     let k : suc (length pre) - 1 ≡ length pre = omega arith in
     let one : same-slots (set (s .log) (length pre) (full (1 + length pre) r)) (slots-from 1 (pre ++ r ∷ []) ++ replicate (length rest + q) empty) ≡ true = slot-more 1 (length rest + q) pre r (s .log) (subst (λ z. same-slots (s .log) (slots-from 1 pre ++ replicate z empty) ≡ true) (suc-add (length rest) q) e) in
     let n : 1 + length pre ≡ suc (length pre) = omega arith in
-    let t : Side = record { pages = s .pages; log = set (s .log) (suc (length pre) - 1) (full (suc (length pre)) r) } in
+    let t : Side = record { pages = s .pages; lefts = s .lefts; log = set (s .log) (suc (length pre) - 1) (full (suc (length pre)) r) } in
     let two : same-slots (t .log) (slots-from 1 (pre ++ r ∷ []) ++ replicate (length rest + q) empty) ≡ true = subst (λ z. same-slots (set (s .log) z (full (suc (length pre)) r)) (slots-from 1 (pre ++ r ∷ []) ++ replicate (length rest + q) empty) ≡ true) (sym k) (subst (λ z. same-slots (set (s .log) (length pre) (full z r)) (slots-from 1 (pre ++ r ∷ []) ++ replicate (length rest + q) empty) ≡ true) n one) in
     let l : length (pre ++ r ∷ []) ≡ suc (length pre) = length-append pre (r ∷ []) ∙ omega arith in
     let rec = slots-more q rest (pre ++ r ∷ []) t two in

@@ -19,7 +19,10 @@ use Rattle.def_model.specs.Pending.{pending-ok}
 use Rattle.def_model.specs.TreeRules.{tree-ok, leaf-records}
 use Rattle.def_model.specs.Update.{Run}
 use Rattle.def_model.specs.Sound.{sound, layouts-ok, log-ok, numbers-ok, stored-ok, desk-ok, reserves-ok}
+use Rattle.def_model.specs.Links.{lefts-ok, relinked}
 use Rattle.def_model.specs.Calls.{run-side}
+use Rattle.theory_tree.specs.Shape.LeftLinks.{relinked-ok}
+use Rattle.theory_tree.specs.Test.Test.{test-sound}
 use Rattle.theory_update.specs.Find.Fetching.{fetched-is}
 use Rattle.theory_pages.specs.Restartable.{laid-blocks, empty-slots}
 use Rattle.theory_ledger.specs.PendingRule.{settles-pending}
@@ -69,6 +72,10 @@ module _ (n m : ℕ) (most : n ≤ map-bits) (t : Run) (sl : List Entry) (c : Co
       (and-both (subst (λ z. chain-ok 1 z [] ≡ true) (sym run-log) (c .chain))
       (subst (λ z. numbers-ok (length z) (pages-of (run-side m t .pages)) ≡ true) (sym run-log) (subst (λ z. numbers-ok (length (t .log)) z ≡ true) (sym run-pages) (numbers-true (length (t .log)) (t .pages) (λ p h. let y = c .lows p h in let d = c .due in omega arith)))))
 
+  side-lefts : lefts-ok (pages-of (run-side m t .pages)) (run-side m t .lefts) ≡ true
+  unfolding run-side
+  side-lefts = (λ i. lefts-ok (pages-back (t .pages) i) (relinked (t .pages) (t .lefts))) ∙ relinked-ok (t .pages) (test-sound (t .pages) (c .tree)) (t .lefts)
+
   pending : pending-ok (t .pages) (open-batches (t .log)) ≡ true
   pending = settles-pending (t .pages) (leaf-records (t .pages)) (λ k h. fetched-is k (t .pages) (c .tree) h) sl (open-batches (t .log)) (c .small) (c .settles)
 
@@ -82,4 +89,4 @@ module _ (n m : ℕ) (most : n ≤ map-bits) (t : Run) (sl : List Entry) (c : Co
       (and-both (subst (λ z. tree-ok z ≡ true) (sym run-pages) (c .tree))
       (and-both ((λ i. pending-ok (run-pages i) (open-batches (run-log i))) ∙ pending)
       (and-both (subst (λ z. same-desk (desk-of (t .log) stored) (desk-of z stored) ≡ true) (sym run-log) (desk-self (desk-of (t .log) stored)))
-      (and-both st ((λ i. reserves-ok (slots-count i) (run-pages i) (run-log i) (open-batches (run-log i))) ∙ rs))))))
+      (and-both st (and-both ((λ i. reserves-ok (slots-count i) (run-pages i) (run-log i) (open-batches (run-log i))) ∙ rs) side-lefts))))))

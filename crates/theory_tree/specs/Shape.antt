@@ -5,5 +5,6 @@ pub mod Marks
 pub mod Sizes
 pub mod Rules
 pub mod Exact
+pub mod LeftLinks
 pub mod Height
 pub mod Formatted

@@ -3,3 +3,4 @@ pub mod Places
 pub mod Halves
 pub mod Leaf
 pub mod Fetching
+pub mod Backwards

@@ -17,7 +17,7 @@ use tree_write::emit_taking;
 use tree_write::fresh;
 ghost use mathlib.Core.Path.{_≡_};
 ghost use mathlib.Core.List.{List};
-ghost use Prim.Native.Nat.{_≤_, _<_};
+ghost use Prim.Native.Nat.{ℕ, _≤_, _<_};
 ghost use lib.Dec.{leb};
 ghost use Rattle.def_layout.specs.Sizes.{room};
 ghost use Rattle.def_base.specs.Tests.{pick};
@@ -61,7 +61,7 @@ pub fn list_of(x: Page) -> EntryList
 // The half covering k, of page p and the one after it.
 pub fn half(wp: &[u8], n: usize, k: u32, p: u32) -> u32
     requires { ⌜ HasPages n (now wp) ⌝ }
-    ensures { λ r. ⌜ ((xs : List layout.Page) → Pages n (now (wp .entry)) xs → r ≡ pick (leb k (layout.at xs p .high)) p (layout.at xs p .right)) ⌝ }
+    ensures { λ r. ⌜ ((xs : List layout.Page) (ls : List ℕ) → Pages n (now (wp .entry)) xs ls → r ≡ pick (leb k (layout.at xs p .high)) p (layout.at xs p .right)) ⌝ }
 {
     let x = page_at(wp, n, p);
     if k <= x.high {

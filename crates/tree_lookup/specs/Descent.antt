@@ -13,6 +13,8 @@ use Rattle.def_layout.specs.Entries.{top, entry, no-entry, seek, look}
 use Rattle.def_layout.specs.Pages.{Page, at}
 use Rattle.codec_page.specs.declared.Page as program
 use Rattle.codec_page.specs.Typed.{typed}
+use Rattle.tree_lookup.specs.declared.Node.{Node}
+use Rattle.tree_lookup.specs.Answers.{shows}
 use Rattle.def_model.specs.Lookup.{entry-or, entry-for, covering, leaf-for, leaf-of, fetched, first-of, or-after, next-by, next-above}
 
 -- ---- by the first entry of a page whose key is not below k
@@ -74,9 +76,9 @@ module _ (k p : ℕ) (pages : List Page) where
   leaf-step zero q h e = absurd (omega arith)
   leaf-step (suc l) q h e = rw (sub-one (suc l)) (ap (λ (j : ℕ). leaf-for l k j pages) (sym e))
 
-  pub leaf-end : (l : ℕ) (x : program.Page) → l ≤ 0 → leaf-of k pages ≡ leaf-for l k p pages → typed x ≡ at pages (covering k p pages) → typed x ≡ at pages (leaf-of k pages)
+  pub leaf-end : (l : ℕ) (x : Node) → l ≤ 0 → leaf-of k pages ≡ leaf-for l k p pages → shows x (covering k p pages) pages → shows x (leaf-of k pages) pages
   unfolding leaf-for
-  leaf-end zero x h e c = c ∙ ap (λ (j : ℕ). at pages j) (sym e)
+  leaf-end zero x h e c = (c .0 ∙ sym e, c .1 ∙ ap (λ (j : ℕ). at pages j) (sym e))
   leaf-end (suc l) x h e c = absurd (omega arith)
 
 -- ---- the answers

@@ -1,3 +1,4 @@
 pub mod Answers
 pub mod Searched
+pub mod Backwards
 pub mod Descent

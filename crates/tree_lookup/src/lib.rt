@@ -1,6 +1,7 @@
-// Fetch and next in the tree, over the lent bytes of the pages: whatever these show, each has an answer.
+// Fetch, next and previous in the tree, over the lent bytes of the pages: whatever these show, each has an answer.
 use codec_entries::find;
 use codec_page::Page;
+use codec_page::left_of;
 use codec_page::nth_page;
 use def_layout::Entry;
 use def_layout::MOST_ENTRIES;
@@ -9,12 +10,14 @@ ghost use Prim.Native.Nat.{_≤_};
 ghost use Rattle.def_layout.specs.Sizes.{room};
 ghost use Rattle.def_layout.specs.Entries.{seek, look};
 ghost use Rattle.def_layout.specs.Pages.{at};
-ghost use Rattle.def_model.specs.Lookup.{entry-for, covering, leaf-of, fetched, first-of, next-above};
+ghost use Rattle.def_model.specs.Lookup.{entry-for, covering, leaf-of, fetched, first-of, next-above, last-below, last-entry, previous-below};
 ghost use Rattle.law_bytes.specs.AreaSizes.{HasPages};
 ghost use Rattle.codec_page.specs.Typed.{typed};
-ghost use Rattle.law_bytes.specs.PageAreas.{pages-of};
+ghost use Rattle.law_bytes.specs.PageAreas.{pages-of, lefts-of};
+ghost use Rattle.law_areas.specs.Pages.{AllPagesFit};
 ghost use Rattle.tree_lookup.specs.Answers.{value-of, slide-of, shows};
 ghost use Rattle.tree_lookup.specs.Searched.{searched};
+ghost use Rattle.tree_lookup.specs.Backwards.{Short};
 
 // The value that is filed under a key.
 pub enum Value {
@@ -98,6 +101,33 @@ fn first_of(x: Page) -> Slide
     Slide::Is(es[0].key, es[0].val)
 }
 
+// The last entry of a page whose key is below k.
+fn last_below(x: Page, k: u32) -> Slide
+    ensures { λ r. ⌜ (Short x → slide-of r ≡ last-below k (typed x .entries)) ⌝ }
+{
+    let n = searched(x);
+    let es = x.entries;
+    let i = find(es, n, k);
+    if i == 0 {
+        return Slide::Absent;
+    }
+    let e = es[i as usize - 1];
+    Slide::Is(e.key, e.val)
+}
+
+// A page's last entry.
+fn last_of(x: Page) -> Slide
+    ensures { λ r. ⌜ (Short x → slide-of r ≡ last-entry (typed x .entries)) ⌝ }
+{
+    let n = searched(x);
+    if n == 0 {
+        return Slide::Absent;
+    }
+    let es = x.entries;
+    let e = es[n as usize - 1];
+    Slide::Is(e.key, e.val)
+}
+
 // The page covering k: page p, or the page after it.
 pub fn covering(pages: &[u8], n: usize, k: u32, p: usize) -> Node
     requires { ⌜ HasPages n (now pages) ⌝ }
@@ -124,9 +154,9 @@ fn child_for(pages: &[u8], n: usize, k: u32, p: usize) -> usize
 }
 
 // The leaf covering k, down from the root as many levels as the root says.
-fn leaf_of(pages: &[u8], n: usize, k: u32) -> Page
+fn leaf_of(pages: &[u8], n: usize, k: u32) -> Node
     requires { ⌜ HasPages n (now pages) ⌝ }
-    ensures { λ r. ⌜ typed r ≡ at (pages-of n (now (pages .entry))) (leaf-of k (pages-of n (now (pages .entry)))) ⌝ }
+    ensures { λ r. ⌜ shows r (leaf-of k (pages-of n (now (pages .entry)))) (pages-of n (now (pages .entry))) ⌝ }
 {
     let root = nth_page(pages, n, 1);
     let mut l = root.level;
@@ -135,7 +165,7 @@ fn leaf_of(pages: &[u8], n: usize, k: u32) -> Page
         p = child_for(pages, n, k, p);
         l -= 1;
     }
-    covering(pages, n, k, p).page
+    covering(pages, n, k, p)
 }
 
 // 01: "Fetch answers a key's value."
@@ -143,7 +173,7 @@ pub fn fetched(pages: &[u8], n: usize, k: u32) -> Value
     requires { ⌜ HasPages n (now pages) ⌝ }
     ensures { λ r. ⌜ value-of r ≡ fetched k (pages-of n (now (pages .entry))) ⌝ }
 {
-    look_in(leaf_of(pages, n, k), k)
+    look_in(leaf_of(pages, n, k).page, k)
 }
 
 // 01: "Next answers the first record above a key." In the leaf that covers the key after it, or else first in the leaf after that one.
@@ -155,9 +185,27 @@ pub fn next_above(pages: &[u8], n: usize, k: u32) -> Slide
         return Slide::Absent;
     }
     let above = k + 1;
-    let x = leaf_of(pages, n, above);
+    let x = leaf_of(pages, n, above).page;
     let Slide::Is(key, val) = seek_in(x, above) else {
         return first_of(nth_page(pages, n, x.right as usize));
+    };
+    Slide::Is(key, val)
+}
+
+// 02, U5: "previous", the mirror of next. In the leaf that covers the key before it, or else last in the leaf to the left of that one. (No page has more
+// than 14 entries.)
+pub fn previous_below(pages: &[u8], n: usize, k: u32) -> Slide
+    requires { ⌜ HasPages n (now pages) ⌝ }
+    ensures { λ r. ⌜ (AllPagesFit (pages-of n (now (pages .entry))) → slide-of r ≡ previous-below k (pages-of n (now (pages .entry))) (lefts-of n (now (pages .entry)))) ⌝ }
+{
+    if k == 0 {
+        return Slide::Absent;
+    }
+    let x = leaf_of(pages, n, k - 1);
+    let leaf = x.page;
+    let Slide::Is(key, val) = last_below(leaf, k) else {
+        let left = left_of(pages, n, x.number);
+        return last_of(nth_page(pages, n, left as usize));
     };
     Slide::Is(key, val)
 }

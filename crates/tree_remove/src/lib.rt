@@ -203,7 +203,7 @@ fn restock(wp: &mut [u8], wl: &mut [u8], n: usize, m: usize, t: Run, k: u32, q: 
 // 01: "Go on in the page covering k."
 fn refind(wp: &[u8], n: usize, k: u32, p: u32) -> u32
     requires { ⌜ HasPages n (now wp) ⌝ }
-    ensures { λ r. ⌜ ((s : model.Run) → Pages n (now (wp .entry)) (s .pages) → r ≡ model.refind k p s .page) ⌝ }
+    ensures { λ r. ⌜ ((s : model.Run) → Pages n (now (wp .entry)) (s .pages) (s .lefts) → r ≡ model.refind k p s .page) ⌝ }
 {
     let x = page_at(wp, n, p);
     let e = entry_for(x, k);

@@ -1,9 +1,9 @@
 -- The working areas show a run of updates: its pages, its log, and where it stands.
-use mathlib.Core.Path.{_≡_, refl, ap, sym, _∙_, subst}
+use mathlib.Core.Path.{_≡_, refl, ap, sym, _∙_, subst, subst₂}
 use Prim.Native.Nat.{ℕ, suc, _+_, _-_, _*_, _<_, _≤_}
 use native.Mathlib.Numerals.{add-one}
 use native.Mathlib.Omega.{arith}
-use mathlib.Core.Bool.{true, false}
+use mathlib.Core.Bool.{Bool, true, false}
 use mathlib.Core.List.{List, [], _∷_, _++_, append-nil}
 use lib.ListN.{length, length-append}
 use lib.Dec.{ltb}
@@ -14,7 +14,7 @@ use Rattle.def_layout.specs.RecordBytes.{record-bytes, slot-bytes}
 use Rattle.def_layout.specs.Sizes.{slot-size}
 use Rattle.def_model.specs.Log.{slots-from}
 use Rattle.def_model.specs.Change.{changes, shape}
-use Rattle.def_model.specs.Redo.{when-named, places, redo-places, redo-record}
+use Rattle.def_model.specs.Redo.{when-named, places, redo-places, redo-record, redo-lefts}
 use Rattle.def_model.specs.Update.{Run, going, stopped, logged, emit-by, emit}
 use Rattle.def_model.specs.OnBytes.{joined, log-bytes, put-part}
 use Rattle.law_bytes.specs.Patch.{patch}
@@ -27,7 +27,7 @@ use Rattle.record_pages.specs.Records.{Keeps}
 use Rattle.tree_write.specs.declared.Run as program
 
 pub record Shows (n m : ℕ) (wp wl : List ℕ) (t : program.Run) (s : Run) : Type 0 where
-  pub pages : Pages n wp (s .pages)
+  pub pages : Pages n wp (s .pages) (s .lefts)
   pub log : HoldsLog wl (s .log)
   pub size : length wl ≡ slot-size * m
   pub logged : length (s .log) ≡ t .logged
@@ -95,14 +95,14 @@ slot-record i b b′ r e = e ∙ ap (λ (k : ℕ). patch b (slot-size * i) (reco
 
 -- It is logged and applied.
 pub emit-logs : {n m : ℕ} {wp wp′ wl wl′ : List ℕ} {t : program.Run} {s : Run} (h : Shows n m wp wl t s) (r : Rec) (k : ℕ) → t .stop ≡ 0 → t .logged < m → k ≡ suc (t .logged)
-    → wl′ ≡ patch wl (slot-size * t .logged) (record-bytes (suc (t .logged)) r) → length wl′ ≡ length wl → Pages n wp′ (redo-record k r (s .pages))
+    → wl′ ≡ patch wl (slot-size * t .logged) (record-bytes (suc (t .logged)) r) → length wl′ ≡ length wl → Pages n wp′ (redo-record k r (s .pages)) (redo-lefts k r (places r) (s .pages) (s .lefts))
     → Shows n m wp′ wl′ (record { logged = k; stop = 0 }) (emit r s)
 unfolding emit emit-by logged
 emit-logs {n} {m} {wp} {wp′} {wl} {wl′} {t} {s} h r k e l d w z p =
     let q : emit r s ≡ logged r s = rw (shows-going h e, shows-slot h l) in
     subst (Shows n m wp′ wl′ (record { logged = k; stop = 0 })) (sym q)
     (record {
-      pages = subst (λ (i : ℕ). Pages n wp′ (redo-record i r (s .pages))) (d ∙ sym (h .due)) p;
+      pages = subst (λ (i : ℕ). Pages n wp′ (redo-record i r (s .pages)) (redo-lefts i r (places r) (s .pages) (s .lefts))) (d ∙ sym (h .due)) p;
       log = log-written (s .log) r (t .logged) (h .logged) w (h .log);
       size = z ∙ h .size;
       logged = length-append (s .log) (r ∷ []) ∙ omega (arith, h .logged, d);
@@ -116,10 +116,25 @@ quiet-pages : (kind : Kind) (batch previous k : ℕ) (xs : List Page) → shape 
 unfolding redo-record places when-named redo-places
 quiet-pages kind batch previous k xs e = rw e
 
+quiet-lefts : (kind : Kind) (batch previous k : ℕ) (xs : List Page) (ls : List ℕ) → shape kind ≡ changes false false false false → redo-lefts k (batch-row kind batch previous) (places (batch-row kind batch previous)) xs ls ≡ ls
+unfolding places when-named redo-lefts
+quiet-lefts kind batch previous k xs ls e = rw e
+
+-- Whether it is written or not.
+pub quiet-emit : (kind : Kind) (batch previous : ℕ) (s : Run) → shape kind ≡ changes false false false false
+    → (emit (batch-row kind batch previous) s .pages ≡ s .pages) × (emit (batch-row kind batch previous) s .lefts ≡ s .lefts)
+unfolding emit emit-by logged
+quiet-emit kind batch previous s e = go (going s) (ltb 0 (s .room))
+  where
+    go : (x y : Bool) → (emit-by x y (batch-row kind batch previous) s .pages ≡ s .pages) × (emit-by x y (batch-row kind batch previous) s .lefts ≡ s .lefts)
+    go true true = (quiet-pages kind batch previous (s .due) (s .pages) e, quiet-lefts kind batch previous (s .due) (s .pages) (s .lefts) e)
+    go true false = (refl, refl)
+    go false y = (refl, refl)
+
 pub emit-notes : {n m : ℕ} {wp wl wl′ : List ℕ} {t : program.Run} {s : Run} (h : Shows n m wp wl t s) (kind : Kind) (batch previous : ℕ) (r : Rec) (k : ℕ)
     → shape kind ≡ changes false false false false → t .stop ≡ 0 → t .logged < m → k ≡ suc (t .logged) → r ≡ batch-row kind batch previous
     → wl′ ≡ patch wl (slot-size * t .logged) (record-bytes (suc (t .logged)) r) → length wl′ ≡ length wl
     → Shows n m wp wl′ (record { logged = k; stop = 0 }) (emit (batch-row kind batch previous) s)
 emit-notes {n} {m} {wp} {wl} {wl′} {t} {s} h kind batch previous r k q e l d i w z =
     emit-logs h (batch-row kind batch previous) k e l d (w ∙ ap (λ (x : Rec). patch wl (slot-size * t .logged) (record-bytes (suc (t .logged)) x)) i) z
-    (subst (Pages n wp) (sym (quiet-pages kind batch previous k (s .pages) q)) (h .pages))
+    (subst₂ (Pages n wp) (sym (quiet-pages kind batch previous k (s .pages) q)) (sym (quiet-lefts kind batch previous k (s .pages) (s .lefts) q)) (h .pages))

@@ -33,7 +33,7 @@ unfolding highest
 highest-unmarked zero = refl
 highest-unmarked (suc n) = highest-unmarked n
 
-module _ {n : ℕ} {area : List ℕ} (x : program.Page) (near : ℕ) (xs : List Page) (h : Pages n area xs) (q : Reads x (at xs 0)) where
+module _ {n : ℕ} {area : List ℕ} (x : program.Page) (near : ℕ) (xs : List Page) (ls : List ℕ) (h : Pages n area xs ls) (q : Reads x (at xs 0)) where
   -- A page that is no map marks nothing as free.
   pub fresh-none : x .kind < 3 → 0 ≡ fresh xs near
   unfolding fresh typed

@@ -102,7 +102,7 @@ pub fn note(wl: &mut [u8], m: usize, t: Run, kind: u32, batch: u32, previous: u3
 // The page taken, of n: the free one with the highest number, or 0 if there is none.
 pub fn fresh(wp: &[u8], n: usize) -> u32
     requires { ⌜ HasPages n (now wp) ⌝ }
-    ensures { λ b. ⌜ (b < 1024) × ((xs : List Page) (near : ℕ) → Pages n (now (wp .entry)) xs → b ≡ model.fresh xs near) ⌝ }
+    ensures { λ b. ⌜ (b < 1024) × ((xs : List Page) (ls : List ℕ) (near : ℕ) → Pages n (now (wp .entry)) xs ls → b ≡ model.fresh xs near) ⌝ }
 {
     let x = page_at(wp, n, 0);
     if x.kind < 3 {

@@ -55,7 +55,7 @@ fn judged(x: Page, i: usize, v: u8, n: usize, p: usize) -> bool {
     let mut b = [0u8; PAGE_SIZE];
     codec_page::write_page(&mut b, x);
     poke(&mut b, i, v);
-    codec_page::page_ok(&b, n, p)
+    codec_page::page_ok(&b, n, p, false)
 }
 
 fn as_written(x: Page, n: usize, p: usize) -> bool {

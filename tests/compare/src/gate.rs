@@ -30,7 +30,7 @@ const RUNS: [Runs; 6] = [
 
 type Try = (&'static str, fn() -> damage::Tried);
 
-const TRIES: [Try; 31] = [
+const TRIES: [Try; 32] = [
     ("every bit of a stored image turned", damage::bits_of_the_image),
     ("bits of all areas turned, for the other calls", damage::bits_for_other_calls),
     ("every bit of the desk turned", damage::bits_of_the_desk),
@@ -61,6 +61,7 @@ const TRIES: [Try; 31] = [
     ("inserts of key 0, and slide 0 from the field", edges::key_0),
     ("marks, and returns to them", edges::marks),
     ("loads of every shape, and refused ones", edges::loads),
+    ("steps backwards, and left links", edges::backwards),
     ("two registers in two threads", edges::two_threads),
 ];
 
@@ -128,6 +129,7 @@ impl Gate<'_> {
             Call::Begin,
             Call::Fetch { batch, key },
             Call::Next { batch, key },
+            Call::Previous { batch, key },
             Call::Insert { batch, key, value },
             Call::Delete { batch, key },
             Call::Commit { batch },

@@ -68,7 +68,7 @@ impl Images {
 
     /// The leaves that the library left hold the book's slides, keys and values.
     fn leaves_are(&self, book: &Book) -> Result<(), Difference> {
-        let slides = Pages::read(&self.beside.loan.areas[0]).and_then(|pages| slides_of(&pages));
+        let slides = Pages::read_working(&self.beside.loan.areas[0]).and_then(|pages| slides_of(&pages));
         let Ok(slides) = slides else {
             return Err(Difference::new("a finished restart leaves no tree, by the library and the model"));
         };

@@ -1,4 +1,4 @@
-//! The library's thirteen functions, as include/donzhikar.h declares them.
+//! The library's fourteen functions, as include/donzhikar.h declares them.
 
 use crate::loan::Loan;
 use reference::calls::Call;
@@ -8,7 +8,7 @@ fn read_only(made: Call) -> [bool; 4] {
     match made {
         Call::Format | Call::Load { .. } => [false, false, false, false],
         Call::Begin => [true, true, false, true],
-        Call::Fetch { .. } | Call::Next { .. } | Call::Mark { .. } => [true, true, true, true],
+        Call::Fetch { .. } | Call::Next { .. } | Call::Previous { .. } | Call::Mark { .. } => [true, true, true, true],
         Call::Insert { .. } | Call::Delete { .. } | Call::Abort { .. } | Call::Return { .. } => {
             [false, true, false, true]
         }
@@ -38,6 +38,7 @@ functions! {
     donzhikar_begin();
     donzhikar_fetch(batch: u32, key: u32);
     donzhikar_next(batch: u32, key: u32);
+    donzhikar_previous(batch: u32, key: u32);
     donzhikar_insert(batch: u32, key: u32, value: u32);
     donzhikar_delete(batch: u32, key: u32);
     donzhikar_commit(batch: u32);
@@ -80,6 +81,7 @@ pub fn call(loan: &mut Loan, made: Call) -> (u32, usize) {
         Call::Begin => make!(donzhikar_begin),
         Call::Fetch { batch, key } => make!(donzhikar_fetch, batch, key),
         Call::Next { batch, key } => make!(donzhikar_next, batch, key),
+        Call::Previous { batch, key } => make!(donzhikar_previous, batch, key),
         Call::Insert { batch, key, value } => make!(donzhikar_insert, batch, key, value),
         Call::Delete { batch, key } => make!(donzhikar_delete, batch, key),
         Call::Commit { batch } => make!(donzhikar_commit, batch),

@@ -12,7 +12,7 @@ pub fn reasons(made: Call) -> &'static [u32] {
         Call::Format => &[1],
         Call::Load { .. } => &[1, 7, 8, 9, 18],
         Call::Begin => &[1, 11, 13, 17],
-        Call::Fetch { .. } | Call::Next { .. } => &[1, 11, 12, 14, 16],
+        Call::Fetch { .. } | Call::Next { .. } | Call::Previous { .. } => &[1, 11, 12, 14, 16],
         Call::Insert { .. } => &[1, 7, 11, 12, 14, 15, 17, 18],
         Call::Delete { .. } => &[1, 11, 12, 14, 16, 17, 18],
         Call::Commit { .. } | Call::Mark { .. } => &[1, 11, 12],

@@ -1,5 +1,5 @@
-//! Demand 2 on random traces: looking up, stepping to the next slide, adding and removing answer as a sorted list of
-//! slides would, under the rules on held keys, also of batches that took back what they did after a mark.
+//! Demand 2 on random traces: looking up, stepping to the next slide or the one before, adding and removing answer as a
+//! sorted list of slides would, under the rules on held keys, also of batches that took back what they did after a mark.
 
 mod common;
 
@@ -55,7 +55,7 @@ impl List {
     /// What a call on a key answers, room aside.
     fn answer(&self, call: Call) -> Option<Result<Answer, Refusal>> {
         let (Call::Fetch { batch, key } | Call::Insert { batch, key, .. } | Call::Delete { batch, key }) = call else {
-            return self.answer_next(call);
+            return self.answer_step(call);
         };
         let found = self.slides.get(&key).copied();
         Some(match call {
@@ -68,15 +68,23 @@ impl List {
         })
     }
 
-    fn answer_next(&self, call: Call) -> Option<Result<Answer, Refusal>> {
-        let Call::Next { batch, key } = call else {
-            return None;
+    fn answer_step(&self, call: Call) -> Option<Result<Answer, Refusal>> {
+        let (batch, found, held) = match call {
+            Call::Next { batch, key } => {
+                let found = self.slides.iter().find(|(slide, _)| **slide > key);
+                let up_to = found.map_or(u32::MAX, |(slide, _)| *slide);
+                (batch, found, key < u32::MAX && self.held(batch, key + 1..=up_to))
+            }
+            Call::Previous { batch, key } => {
+                let found = self.slides.range(..key).next_back();
+                let down_to = found.map_or(0, |(slide, _)| *slide);
+                (batch, found, key > 0 && self.held(batch, down_to..=key - 1))
+            }
+            _ => return None,
         };
-        let found = self.slides.iter().find(|(slide, _)| **slide > key);
-        let up_to = found.map_or(u32::MAX, |(slide, _)| *slide);
         Some(match found {
             _ if !self.changes.contains_key(&batch) => Err(Refusal::NoBatch),
-            _ if key < u32::MAX && self.held(batch, key + 1..=up_to) => Err(Refusal::Held),
+            _ if held => Err(Refusal::Held),
             Some((key, value)) => Ok(Answer::Slide { key: *key, value: *value }),
             None => Err(Refusal::Absent),
         })

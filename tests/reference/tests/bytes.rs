@@ -20,6 +20,7 @@ fn a_page_stands_in_its_bytes_most_significant_first() {
         kind: PageKind::Index,
         level: 5,
         right: 0x155,
+        left: 0,
         high: 0x0102_0304,
         log: 0x0506_0708,
         own: 0x3FE,
@@ -30,6 +31,15 @@ fn a_page_stands_in_its_bytes_most_significant_first() {
     let expected = [head, 0x0102_0304, 0x0506_0708, 0x3FE << 22, 0x1112_1314, 0x3FF];
     assert_eq!(words(&page.bytes())[..6], expected);
     assert!(words(&page.bytes())[6..].iter().all(|word| *word == 0));
+}
+
+#[test]
+fn a_left_link_stands_in_the_first_10_bits_after_the_right_link_and_is_not_stored() {
+    let leaf = Page { right: 0x155, left: 0x2AA, kind: PageKind::Leaf, ..Page::free(7, 9) };
+    // kind 01, level 0000, count 0000, right 0101010101, left 1010101010, 2 spare.
+    assert_eq!(words(&leaf.bytes())[0], 0b01_0000_0000_0101010101_1010101010_00);
+    assert_eq!(words(&leaf.stored().bytes())[0], 0b01_0000_0000_0101010101_0000000000_00);
+    assert_eq!(words(&leaf.bytes())[1..], words(&leaf.stored().bytes())[1..]);
 }
 
 #[test]
@@ -77,6 +87,7 @@ fn pages_are_read_back() {
             kind: PageKind::at_level(level),
             level,
             right: random.below(1024),
+            left: if index { 0 } else { random.below(1024) },
             high: random.number(),
             log: random.number(),
             own,
@@ -121,7 +132,7 @@ fn the_desk_is_read_back() {
     assert_eq!((desk.written, desk.stored), (numbers[32], numbers[33]));
 }
 
-/// Whether this one bit of a page may be turned over in a new register of 16 pages.
+/// Whether this one bit of a stable page may be turned over in a new register of 16 pages.
 fn is_free_field(page: usize, bit: usize) -> bool {
     match page {
         // The map's log number, and the bits of pages 0 to 15.
@@ -141,6 +152,10 @@ fn every_other_bit_breaks_the_layout() {
         let mut changed = bytes.clone();
         changed[bit / 8] ^= 0x80 >> (bit % 8);
         let (page, bit) = (bit / 8 / PAGE_BYTES, bit % (8 * PAGE_BYTES));
-        assert_eq!(Pages::read(&changed).is_ok(), is_free_field(page, bit), "page {page}, bit {bit}");
+        let is_free = is_free_field(page, bit);
+        assert_eq!(Pages::read(&changed).is_ok(), is_free, "page {page}, bit {bit}");
+        // The root, a leaf, has a left link as a working page.
+        let is_left_link = page == 1 && (20..=29).contains(&bit);
+        assert_eq!(Pages::read_working(&changed).is_ok(), is_free || is_left_link, "working page {page}, bit {bit}");
     }
 }

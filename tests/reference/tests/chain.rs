@@ -88,7 +88,7 @@ fn marked_batch() -> (Areas, Desk) {
         stable_log: vec![0; 2 * FEWEST_SLOTS * SLOT_BYTES],
     };
     areas = call(&areas, &Desk::empty(), Call::Format).areas;
-    let mut work = Work::read(&areas.working_pages, &areas.working_log).expect("formatted");
+    let mut work = Work::read_working(&areas.working_pages, &areas.working_log).expect("formatted");
     work.write(Record::new(Kind::Begin)).expect("room");
     work.write(Record { a: 1, ..update(Kind::Insert, 1, 5, 50) }).expect("room");
     work.write(about(Kind::AbortMark, 2)).expect("room");
@@ -105,6 +105,7 @@ fn a_marked_batch_reads_but_does_not_write() {
     let batch = 1;
     assert_eq!(answer(Call::Fetch { batch, key: 5 }), Ok(Answer::Value(50)));
     assert_eq!(answer(Call::Next { batch, key: 4 }), Ok(Answer::Slide { key: 5, value: 50 }));
+    assert_eq!(answer(Call::Previous { batch, key: 6 }), Ok(Answer::Slide { key: 5, value: 50 }));
     for writes in [
         Call::Insert { batch, key: 6, value: 60 },
         Call::Delete { batch, key: 5 },

@@ -187,7 +187,8 @@ fn every_page_and_then_every_slot_is_stored() {
     let Outcome { answer, areas, desk, stores } = before.outcome_of(Call::Load { columns: columns(60) });
     let pages = pages_for(&records(60), PAGES).expect("room");
     assert_eq!((answer, desk), (DONE, Desk::empty()));
-    assert!(areas.working_pages == pages.bytes() && areas.stable_pages == pages.bytes());
+    assert_eq!(Pages::read_working(&areas.working_pages).map(|working| working.stored()), Ok(pages.clone()));
+    assert!(areas.stable_pages == pages.bytes());
     assert!([&areas.working_log, &areas.stable_log].iter().all(|log| log.iter().all(|byte| *byte == 0)));
     let place = |store: &Store| match store {
         Store::Page { page, .. } => *page,

@@ -163,6 +163,7 @@ fn any_other_console_line_prints_a_question_mark() {
         "X 1",
         "M 1",
         "T 1 1",
+        "V 1 1",
         "d 0 1",
     ];
     for line in others {

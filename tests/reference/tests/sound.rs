@@ -1,4 +1,4 @@
-//! Each part of "sound", broken by itself in a sound register, is seen; and the pending rule.
+//! Each part of "sound", broken by itself in a sound register, is seen; and the pending rule. Left links: `backwards.rs`.
 
 use reference::bench::Instrument;
 use reference::calls::{sound, Call};
@@ -87,7 +87,7 @@ fn pending_inserts(count: u32, pages: usize, slots: usize) -> Instrument {
     let mut instrument = Instrument::lent(pages, slots);
     instrument.make(Call::Format);
     let Areas { working_pages, working_log, .. } = &instrument.areas;
-    let mut work = Work::read(working_pages, working_log).expect("formatted");
+    let mut work = Work::read_working(working_pages, working_log).expect("formatted");
     work.write(Record::new(Kind::Begin)).expect("room");
     for key in 1..=count {
         work.write(Record { batch: 1, previous: key, a: 1, key, ..Record::new(Kind::Insert) }).expect("room");

@@ -151,6 +151,7 @@ fn a_redistribution_puts_nothing_above_a_childs_ten_bits_into_an_index() {
         kind: PageKind::Index,
         level: 1,
         right,
+        left: 0,
         high,
         log: 0,
         own,

@@ -90,7 +90,7 @@ fn linked_before_a_join(records: &[&Record]) -> Option<&'static str> {
 
 /// What the traces are for. Restart's 5 and 6 need damage, and its 18 and the 19 of abort and return an image past the
 /// reserves.
-const WANTED: [&str; 82] = [
+const WANTED: [&str; 87] = [
     "link after the right neighbour",
     "link of the left neighbour",
     "Split at level 0",
@@ -125,6 +125,10 @@ const WANTED: [&str; 82] = [
     "Next refused 12",
     "Next refused 14",
     "Next refused 16",
+    "Previous refused 11",
+    "Previous refused 12",
+    "Previous refused 14",
+    "Previous refused 16",
     "Insert refused 7",
     "Insert refused 11",
     "Insert refused 12",
@@ -155,6 +159,7 @@ const WANTED: [&str; 82] = [
     "Format cut",
     "Insert cut",
     "Mark cut",
+    "Previous cut",
     "Restart cut",
     "Return cut",
     "WriteOut cut",
@@ -357,6 +362,8 @@ fn with_key_0(event: &Event, before: &Instrument, after: &Instrument) -> Vec<Str
     let undone = new_of_key_0(before, after).into_iter().map(|kind| format!("{kind:?}"));
     let name = match event.call {
         Call::Fetch { key: 0, .. } => "fetch",
+        // Nothing but slide 0 is below.
+        Call::Previous { key: 1, .. } => "previous",
         Call::Delete { key: 0, .. } => "delete",
         Call::Insert { key: 0, .. } => "insert",
         _ => return undone.collect(),
@@ -378,17 +385,20 @@ fn new_of_key_0(before: &Instrument, after: &Instrument) -> Vec<Kind> {
 fn the_runs_from_the_field_start_with_slide_0_and_meet_what_is_done_to_it() {
     let mut met = BTreeSet::new();
     let mut filed = 0;
-    for seed in 1..=30 {
+    for seed in 1..=60 {
         let run = run(Shape::Field, seed, 200);
         assert!(redo_alone(&run.start.areas).is_ok(), "a whole image");
         filed += usize::from(run.book.as_ref().is_some_and(|book| book.slides.contains_key(&0)));
         each_event(&run, |before, event, after| met.extend(with_key_0(event, before, after)));
     }
-    assert!(filed >= 5, "{filed} of 30 have slide 0 filed");
+    assert!(filed >= 10, "{filed} of 60 have slide 0 filed");
     let wanted = [
         "fetch 0",
         "fetch 14",
         "fetch 16",
+        "previous 0",
+        "previous 14",
+        "previous 16",
         "delete 0",
         "delete 14",
         "delete 16",

@@ -1,9 +1,10 @@
-//! Every single change of the tree leaves a tree by the rules, an update stays within 32 records and 7 pages, and redo
-//! of all records from the first makes the same pages again.
+//! Every single change of the tree leaves a tree by the rules, an update stays within 32 records and 7 pages and keeps the
+//! left links, and redo of all records from the first makes the same pages again.
 
 use reference::bench::Random;
 use reference::calls::write_update;
 use reference::layout::{Entry, Kind, Pages, Record};
+use reference::left::{left_links_agree, link_leaves};
 use reference::log::{redo, Work};
 use reference::sizes::{MOST_PAGES, ROOT, UPDATE_PAGES, UPDATE_RECORDS};
 use reference::tree::slides_of;
@@ -19,7 +20,7 @@ fn large_register() -> Work {
 /// Add or remove a key, and look at the tree after each record that this wrote.
 fn update(work: &mut Work, key: u32, kind: Kind) {
     let written = work.log.records.len();
-    let mut pages = work.pages.clone();
+    let mut pages = work.pages.stored();
     write_update(work, 1, kind, Entry::new(key, key ^ 1)).expect("room");
     let new = &work.log.records[written..];
     let taken = new.iter().filter(|record| matches!(record.kind, Kind::Split | Kind::Raise)).count();
@@ -29,7 +30,8 @@ fn update(work: &mut Work, key: u32, kind: Kind) {
         assert!(slides_of(&pages).is_ok(), "{:?} leaves a tree by the rules", record.kind);
         check_halves(&pages, record);
     }
-    assert!(pages == work.pages, "redo of what was written makes the same pages");
+    assert!(left_links_agree(&work.pages));
+    assert!(pages == work.pages.stored(), "redo of what was written makes the same pages");
 }
 
 /// "A split of 14 leaves 7 and 7. Redistribution gives the left page the larger half."
@@ -50,6 +52,7 @@ fn check_slides(work: &Work, keys: usize) {
 fn check_redo_from_the_start(work: &Work) {
     let mut pages = Pages::formatted(MOST_PAGES);
     redo(&mut pages, &work.log.records).expect("redo of a whole log");
+    link_leaves(&mut pages);
     assert!(pages == work.pages);
 }
 

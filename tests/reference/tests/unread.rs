@@ -112,7 +112,9 @@ fn it_is_asked_before_the_room() {
 fn the_other_calls_take_key_0_as_any_other() {
     let mut instrument = formatted(PAGES, SLOTS);
     let batch = begin(&mut instrument);
-    for made in [Call::Fetch { batch, key: 0 }, Call::Delete { batch, key: 0 }, Call::Next { batch, key: 0 }] {
+    let key = 0;
+    let steps = [Call::Next { batch, key }, Call::Previous { batch, key }];
+    for made in [Call::Fetch { batch, key }, Call::Delete { batch, key }].into_iter().chain(steps) {
         assert_eq!(instrument.make(made).answer, Err(Refusal::Absent), "{made:?}");
     }
 }

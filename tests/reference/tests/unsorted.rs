@@ -16,7 +16,7 @@ fn entries(keys: &[u32]) -> Vec<Entry> {
 
 /// A page of this level that no record has changed yet.
 fn page(own: usize, level: usize, right: usize, keys: &[u32]) -> Page {
-    Page { kind: PageKind::at_level(level), level, right, high: TOP, log: 0, own, entries: entries(keys) }
+    Page { kind: PageKind::at_level(level), level, right, left: 0, high: TOP, log: 0, own, entries: entries(keys) }
 }
 
 /// A register of one leaf.
@@ -82,7 +82,7 @@ fn a_committed_delete_is_not_silently_undone() {
     assert_eq!(refusal(&[30, 10, 20], &committed), Some(Refusal::Redo));
     let outcome = restart(&leaf(&[30, 20]), &log(&committed));
     assert_eq!(outcome.answer, Ok(Answer::Restarted { ended: 0, changes: 3 }));
-    let left = Pages::read(&outcome.areas.working_pages).and_then(|pages| slides_of(&pages));
+    let left = Pages::read_working(&outcome.areas.working_pages).and_then(|pages| slides_of(&pages));
     assert_eq!(left.expect("a tree"), entries(&[20]));
 }
 

@@ -78,6 +78,11 @@ fn places_in_a_page() {
 }
 
 #[test]
+fn steps_backwards() {
+    compare("u05-", 7, vectors);
+}
+
+#[test]
 fn images_from_the_field() {
     compare("field/", 5, vectors);
 }

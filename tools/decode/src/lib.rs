@@ -4,8 +4,10 @@
 //! - `layout`: the fields of pages, records and the desk, and their bytes both ways (refusal 3, and the rows of 4).
 //! - `log`: what a record changes, from what it starts (5), redo, the batches that the log leaves open, the pending rule.
 //! - `rules`: the tree rules (6).
+//! - `left`: the left links of working leaves, which nothing that is stored has.
 
 pub mod layout;
+pub mod left;
 pub mod log;
 pub mod rules;
 pub mod sizes;

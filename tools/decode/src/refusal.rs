@@ -31,7 +31,7 @@ pub enum Refusal {
     Held = 14,
     /// The key is present.
     Present = 15,
-    /// The key is absent, or there is none above.
+    /// The key is absent, or there is none above, or none below.
     Absent = 16,
     /// Log slots short.
     SlotsShort = 17,

@@ -63,9 +63,9 @@ pub fn entries(entries: &[Entry]) -> String {
     entries.iter().map(|entry| format!(" ({},{})", key(entry.key), entry.value)).collect()
 }
 
-/// A page's fields, as its bytes show them.
+/// A stored page's fields, as its bytes show them. It has no left link.
 pub fn page(bytes: &[u8]) -> String {
-    let Page { kind, level, right, high, log, own, entries: list } = Page::read(bytes);
+    let Page { kind, level, right, high, log, own, entries: list, .. } = Page::read(bytes);
     match kind {
         PageKind::Map => {
             let map = Map::read(bytes);

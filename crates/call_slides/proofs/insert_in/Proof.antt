@@ -16,17 +16,20 @@ returns : tie.Need-returns
 returns c budget sp sl g =
     insert-barred g _ _ _ _ _ (c .before .before .before .before .before .before .before .before .before .before .pre .4) (c .before .before .before .before .is-there .ensures ∙ ap found (sym (fetched-read g _ _ (c .before .before .before .before .before .before .fetched .ensures)))) (c .before .before .before .update-bar .ensures .1 _ _ sp sl g) (not-true _ (c .before .if1 .taken)) budget _ (c .refused .ensures)
 
+relink-requires : tie.Need-relink-requires
+relink-requires c κs = let q = c .before .before .before .before .before .before .before .before .before .before .before .before .before .before .before .before .before .pre .0 in (c .before .before .before .before .before .put-record .kept .0 ∙ q .0, q .1)
+
 updated-requires : tie.Need-updated-requires
 updated-requires c κs =
-    let u = c .before .before .before .before .before .before .before .before .before .update-bar in
-    (u .ensures .0, c .before .before .before .before .before .before .before .before .before .before .before .before .before .before .before .before .pre .3 (u .result .row))
+    let u = c .before .before .before .before .before .before .before .before .before .before .before .before .before .update-bar in
+    (u .ensures .0, c .before .before .before .before .before .before .before .before .before .before .before .before .before .before .before .before .before .before .before .before .pre .3 (u .result .row))
 
 returns-2 : tie.Need-returns-2
 unfolding kind-of
 returns-2 c budget sp sl g =
-    let u = c .before .before .before .before .before .before .before .before .before .before .update-bar in
-    let p = c .before .before .before .before .before .put-record in
-    insert-0 g _ _ _ (u .result .row) budget (p .result) _ (omega (arith, c .before .before .before .before .before .before .before .before .before .before .before .before .before .before .before .before .before .fits .k .fits)) refl (c .updated .ensures) _ (c .before .before .before .before .before .before .before .before .before .before .before .before .before .before .before .before .before .pre .4) (c .before .before .before .before .before .before .before .before .before .before .before .is-there .ensures ∙ ap found (sym (fetched-read g _ _ (c .before .before .before .before .before .before .before .before .before .before .before .before .before .fetched .ensures)))) (u .ensures .1 _ _ sp sl g .frees (not-false _ (c .before .before .before .before .before .before .before .before .if1 .left))) (p .ensures (run-of (areas g)) (g .known .shows sp))
+    let u = c .before .before .before .before .before .before .before .before .before .before .before .before .before .before .update-bar in
+    let p = c .before .before .before .before .before .before .before .before .before .put-record in
+    insert-0 g _ _ _ (u .result .row) budget (p .result) _ (omega (arith, c .before .before .before .before .before .before .before .before .before .before .before .before .before .before .before .before .before .before .before .before .before .fits .k .fits)) (omega (arith, c .before .before .before .before .before .before .before .before .before .before .before .before .before .before .before .before .before .before .before .before .before .fits .b .fits)) (c .before .before .before .relink .ensures) refl (c .updated .ensures) _ (omega (arith, c .before .before .before .before .before .before .before .before .before .before .before .before .before .before .before .before .before .before .before .before .before .fits .v .fits)) (c .before .before .before .before .before .before .before .before .before .before .before .before .before .before .before .before .before .before .before .before .before .pre .4) (c .before .before .before .before .before .before .before .before .before .before .before .before .before .before .before .is-there .ensures ∙ ap found (sym (fetched-read g _ _ (c .before .before .before .before .before .before .before .before .before .before .before .before .before .before .before .before .before .fetched .ensures)))) (u .ensures .1 _ _ sp sl g .frees (not-false _ (c .before .before .before .before .before .before .before .before .before .before .before .before .if1 .left))) (p .ensures (run-of (areas g)) (g .known .shows sp))
 
 pub insert-in-spec : {M : Type 1} → statement M
 insert-in-spec =
@@ -42,6 +45,7 @@ insert-in-spec =
     (λ c. search needs)
     (λ c. search needs)
     (λ c κs. search needs)
+    relink-requires
     updated-requires
     (λ c. search needs)
     (λ c. search needs)

@@ -19,15 +19,15 @@ returns c =
     lengths-refused calls.format _ (a .d) (a .budget) _ (sym (c .before .before .lengths-ok .ensures) ∙ not-true _ (c .before .if1 .taken)) (c .refused .ensures .0)
     (c .refused .ensures .1 ∙ c .before .before .before .before .before .before .before .idle-desk .ensures)
 
-format-requires : tie.Need-format-requires
-format-requires c κs =
+start-empty-requires : tie.Need-start-empty-requires
+start-empty-requires c κs =
     let a = c .before .before .before .before .before .before .before .before .before .before .before .before .before .before .before .args in
     lengths-numbers (a .wp .now) (a .sp .now) (a .wl .now) (a .sl .now) (sym (c .before .before .before .before .before .lengths-ok .ensures) ∙ not-false _ (c .before .before .before .before .if1 .left))
 
 returns-2 : tie.Need-returns-2
 returns-2 c =
     let a = c .before .before .before .before .before .before .before .before .before .before .before .before .before .before .before .before .before .before .before .before .before .before .before .before .args in
-    started-0 calls.format [] _ _ (a .d) (a .budget) _ (format-result _ (a .d) (sym (c .before .before .before .before .before .before .before .before .before .before .before .before .before .before .lengths-ok .ensures) ∙ not-false _ (c .before .before .before .before .before .before .before .before .before .before .before .before .before .if1 .left))) (c .before .before .before .before .before .before .before .before .format .ensures) refl (c .before .before .before .before .before .before .before .before .before .before .before .before .before .before .before .before .before .before .before .idle-desk .ensures)
+    started-0 calls.format [] _ _ (a .d) (a .budget) _ (format-result _ (a .d) (sym (c .before .before .before .before .before .before .before .before .before .before .before .before .before .before .lengths-ok .ensures) ∙ not-false _ (c .before .before .before .before .before .before .before .before .before .before .before .before .before .if1 .left))) (c .before .before .before .before .before .before .before .before .start-empty .ensures) refl (c .before .before .before .before .before .before .before .before .before .before .before .before .before .before .before .before .before .before .before .idle-desk .ensures)
 
 pub format-within-spec : {M : Type 1} → statement M
 format-within-spec =
@@ -41,7 +41,7 @@ format-within-spec =
     (λ c. search needs)
     (λ c. search needs)
     returns
-    format-requires
+    start-empty-requires
     (λ c. search needs)
     (λ c. search needs)
     (λ c. search needs)

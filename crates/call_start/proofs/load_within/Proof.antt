@@ -28,20 +28,20 @@ returns-2 c =
     let v = c .before .before .before .judged in
     load-refused (a .keys .now) (a .values .now) (a .wp .now) (a .sp .now) (a .wl .now) (a .sl .now) lens (v .result .ok) (v .result .why) (v .ensures) (a .d) (a .budget) _ (not-true _ (c .before .if2 .taken)) (c .refused2 .ensures .0) (c .refused2 .ensures .1 ∙ c .before .before .before .before .before .before .before .before .before .before .idle-desk .ensures)
 
-load-requires : tie.Need-load-requires
-load-requires c κs =
+start-loaded-requires : tie.Need-start-loaded-requires
+start-loaded-requires c κs =
     let a = c .before .before .before .before .before .before .before .before .before .before .before .before .before .before .before .before .before .before .before .before .args in
     let lens = sym (c .before .before .before .before .before .before .before .before .lengths-ok .ensures) ∙ not-false _ (c .before .before .before .before .before .before .before .if1 .left) in
     let v = c .before .before .before .before .before .before .judged in
-    let (cs, few) = load-asks (a .keys .now) (a .values .now) (a .wp .now) (a .sp .now) (a .wl .now) (a .sl .now) lens (v .result .ok) (v .result .why) (v .ensures) (not-false _ (c .before .before .before .before .if2 .left)) in
-    (lengths-numbers (a .wp .now) (a .sp .now) (a .wl .now) (a .sl .now) lens, cs, few)
+    let (cs, few, rise) = load-asks (a .keys .now) (a .values .now) (a .wp .now) (a .sp .now) (a .wl .now) (a .sl .now) lens (v .result .ok) (v .result .why) (v .ensures) (not-false _ (c .before .before .before .before .if2 .left)) in
+    (lengths-numbers (a .wp .now) (a .sp .now) (a .wl .now) (a .sl .now) lens, cs, few, rise)
 
 returns-3 : tie.Need-returns-3
 returns-3 c =
     let a = c .before .before .before .before .before .before .before .before .before .before .before .before .before .before .before .before .before .before .before .before .before .before .before .before .before .before .before .before .before .args in
     let lens = sym (c .before .before .before .before .before .before .before .before .before .before .before .before .before .before .before .before .before .lengths-ok .ensures) ∙ not-false _ (c .before .before .before .before .before .before .before .before .before .before .before .before .before .before .before .before .if1 .left) in
     let v = c .before .before .before .before .before .before .before .before .before .before .before .before .before .before .before .judged in
-    load-0 (a .keys .now) (a .values .now) (a .wp .now) (a .sp .now) (a .wl .now) (a .sl .now) lens (v .result .ok) (v .result .why) (v .ensures) (not-false _ (c .before .before .before .before .before .before .before .before .before .before .before .before .before .if2 .left)) (a .d) (a .budget) _ _ (c .before .before .before .before .before .before .before .before .load .ensures) refl (c .before .before .before .before .before .before .before .before .before .before .before .before .before .before .before .before .before .before .before .before .before .before .idle-desk .ensures)
+    load-0 (a .keys .now) (a .values .now) (a .wp .now) (a .sp .now) (a .wl .now) (a .sl .now) lens (v .result .ok) (v .result .why) (v .ensures) (not-false _ (c .before .before .before .before .before .before .before .before .before .before .before .before .before .if2 .left)) (a .d) (a .budget) _ _ (c .before .before .before .before .before .before .before .before .start-loaded .ensures) refl (c .before .before .before .before .before .before .before .before .before .before .before .before .before .before .before .before .before .before .before .before .before .before .idle-desk .ensures)
 
 pub load-within-spec : {M : Type 1} → statement M
 load-within-spec =
@@ -62,7 +62,7 @@ load-within-spec =
     (λ c. search needs)
     (λ c. search needs)
     returns-2
-    load-requires
+    start-loaded-requires
     (λ c. search needs)
     (λ c. search needs)
     (λ c. search needs)

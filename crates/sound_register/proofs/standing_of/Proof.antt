@@ -40,7 +40,7 @@ returns-6 : tie.Need-returns-6
 returns-6 c =
     let a = c .before .before .before .before .before .before .before .before .before .before .before .before .before .before .before .before .before .before .args in
     let q = c .before .before .before .before .before .before .before .before .before .before .before .before .before .before .before .before .before .before .pre in
-    tree-broken (a .n) (a .m) (a .wp .now) (a .wl .now) (a .sl .now) (a .d) (q .0 .0) (q .0 .2) (q .1 .0) (sym (c .before .before .before .before .before .before .before .before .before .before .before .before .before .before .layouts-ok .ensures) ∙ not-false _ (c .before .before .before .before .before .before .before .before .before .before .before .before .before .if1 .left)) _ (c .before .before .before .before .before .before .before .before .before .before .before .before .judge-log .ensures) (not-false _ (c .before .before .before .before .before .before .before .before .before .before .if2 .left)) _ (c .unsound6 .ensures) (not-true _ (c .before .if6 .taken)) (c .before .before .tree-ok .ensures)
+    tree-broken (a .n) (a .m) (a .wp .now) (a .wl .now) (a .sl .now) (a .d) (q .0 .0) (q .0 .2) (q .1 .0) (sym (c .before .before .before .before .before .before .before .before .before .before .before .before .before .before .layouts-ok .ensures) ∙ not-false _ (c .before .before .before .before .before .before .before .before .before .before .before .before .before .if1 .left)) _ (c .before .before .before .before .before .before .before .before .before .before .before .before .judge-log .ensures) (not-false _ (c .before .before .before .before .before .before .before .before .before .before .if2 .left)) _ (c .unsound6 .ensures) (not-true _ (c .before .if6 .taken)) (c .before .before .linked-ok .ensures)
 
 reserved-requires : tie.Need-reserved-requires
 reserved-requires c κs =
@@ -70,7 +70,7 @@ returns-9 : tie.Need-returns-9
 returns-9 c =
     let a = c .before .before .before .before .before .before .before .before .before .before .before .before .before .before .before .before .before .before .before .before .before .before .before .args in
     let q = c .before .before .before .before .before .before .before .before .before .before .before .before .before .before .before .before .before .before .before .before .before .before .before .pre in
-    all-kept (a .n) (a .m) (a .wp .now) (a .wl .now) (a .sl .now) (a .d) (q .0 .0) (q .0 .2) (q .1 .0) (sym (c .before .before .before .before .before .before .before .before .before .before .before .before .before .before .before .before .before .before .before .layouts-ok .ensures) ∙ not-false _ (c .before .before .before .before .before .before .before .before .before .before .before .before .before .before .before .before .before .before .if1 .left)) _ (c .before .before .before .before .before .before .before .before .before .before .before .before .before .before .before .before .before .judge-log .ensures) (not-false _ (c .before .before .before .before .before .before .before .before .before .before .before .before .before .before .before .if2 .left)) (c .before .before .before .before .before .before .before .before .before .before .before .before .before .desk-is .ensures) (not-false _ (c .before .before .before .before .before .before .before .before .before .before .before .before .if3 .left)) (λ i. c .before .before .before .before .before .before .before .before .before .before .before .before .before .before .before .before .before .before .before .before .before .shared-slice-known2 .given i .fits) _ (c .before .before .before .before .reserved .ensures) (not-false _ (c .before .before .if7 .left)) (c .before .before .before .before .before .before .before .before .before .before .before .numbers-ok .ensures) (not-false _ (c .before .before .before .before .before .before .before .before .before .before .if4 .left)) (c .before .before .before .before .before .before .before .before .before .stored-ok .ensures) (not-false _ (c .before .before .before .before .before .before .before .before .if5 .left)) (c .before .before .before .before .before .before .before .tree-ok .ensures) (not-false _ (c .before .before .before .before .before .before .if6 .left)) (c .before .pending-ok .ensures) (not-false _ (c .if8 .left))
+    all-kept (a .n) (a .m) (a .wp .now) (a .wl .now) (a .sl .now) (a .d) (q .0 .0) (q .0 .2) (q .1 .0) (sym (c .before .before .before .before .before .before .before .before .before .before .before .before .before .before .before .before .before .before .before .layouts-ok .ensures) ∙ not-false _ (c .before .before .before .before .before .before .before .before .before .before .before .before .before .before .before .before .before .before .if1 .left)) _ (c .before .before .before .before .before .before .before .before .before .before .before .before .before .before .before .before .before .judge-log .ensures) (not-false _ (c .before .before .before .before .before .before .before .before .before .before .before .before .before .before .before .if2 .left)) (c .before .before .before .before .before .before .before .before .before .before .before .before .before .desk-is .ensures) (not-false _ (c .before .before .before .before .before .before .before .before .before .before .before .before .if3 .left)) (λ i. c .before .before .before .before .before .before .before .before .before .before .before .before .before .before .before .before .before .before .before .before .before .shared-slice-known2 .given i .fits) _ (c .before .before .before .before .reserved .ensures) (not-false _ (c .before .before .if7 .left)) (c .before .before .before .before .before .before .before .before .before .before .before .numbers-ok .ensures) (not-false _ (c .before .before .before .before .before .before .before .before .before .before .if4 .left)) (c .before .before .before .before .before .before .before .before .before .stored-ok .ensures) (not-false _ (c .before .before .before .before .before .before .before .before .if5 .left)) (c .before .before .before .before .before .before .before .linked-ok .ensures) (not-false _ (c .before .before .before .before .before .before .if6 .left)) (c .before .pending-ok .ensures) (not-false _ (c .if8 .left))
 
 pub standing-of-spec : {M : Type 1} → statement M
 standing-of-spec =

@@ -11,7 +11,7 @@ use Rattle.def_base.specs.Tests.{pick, Case, yes!, no!, case, clash, true-eq, e
 use Rattle.def_layout.specs.Pages.{Page, at, map-bits}
 use Rattle.def_layout.specs.Records.{Rec}
 use Rattle.def_model.specs.Change.{act, hits}
-use Rattle.def_model.specs.Redo.{redo-record}
+use Rattle.def_model.specs.Redo.{places, redo-record, redo-lefts}
 use Rattle.def_model.specs.TreeRules.{Node, leaves, counted}
 use Rattle.def_model.specs.Update.{Run, stopped, logged, emit-by, emit, fresh, taking-by, emit-taking}
 use Rattle.theory_redo.specs.OnePage.{redo1}
@@ -25,7 +25,7 @@ use Rattle.theory_update.specs.Run.Keeps.{Halt, halt-short}
 
 -- A run with one record more, logged and applied.
 abbrev pub written-by : Rec → Run → Run
-written-by r s = record { pages = redo-record (s .due) r (s .pages); log = s .log ++ r ∷ []; due = suc (s .due); room = s .room - 1; stop = 0 }
+written-by r s = record { pages = redo-record (s .due) r (s .pages); lefts = redo-lefts (s .due) r (places r) (s .pages) (s .lefts); log = s .log ++ r ∷ []; due = suc (s .due); room = s .room - 1; stop = 0 }
 
 -- ---- a run in order
 

@@ -12,8 +12,8 @@ use Rattle.tree_add.specs.Rooms.{direct-stays, direct-links}
 returns : tie.Need-returns
 returns c s h =
     let a = c .before .before .before .before .before .before .before .before .before .before .args in
-    let q = c .before .before .before .before .before .before .page-at .ensures .1 (s .pages) (h .pages) in
-    direct-stays h (a .k) (a .p) _ _ (c .before .before .before .before .before .entry-for .ensures ∙ ap (λ (y : Page). entry-for (a .k) (y .entries)) (q .is)) (c .before .before .before .page-at2 .ensures .1 (s .pages) (h .pages)) (c .if1 .taken)
+    let q = c .before .before .before .before .before .before .page-at .ensures .1 (s .pages) (s .lefts) (h .pages) in
+    direct-stays h (a .k) (a .p) _ _ (c .before .before .before .before .before .entry-for .ensures ∙ ap (λ (y : Page). entry-for (a .k) (y .entries)) (q .is)) (c .before .before .before .page-at2 .ensures .1 (s .pages) (s .lefts) (h .pages)) (c .if1 .taken)
 
 link-child-requires : tie.Need-link-child-requires
 link-child-requires c κs =
@@ -26,13 +26,13 @@ half-requires c κs = let p = c .before .before .before .before .before .before 
 returns-2 : tie.Need-returns-2
 returns-2 c s h =
     let a = c .before .before .before .before .before .before .before .before .before .before .before .before .before .before .before .before .before .before .before .before .before .before .before .before .before .before .args in
-    let q = c .before .before .before .before .before .before .before .before .before .before .before .before .before .before .before .before .before .before .before .before .before .before .page-at .ensures .1 (s .pages) (h .pages) in
+    let q = c .before .before .before .before .before .before .before .before .before .before .before .before .before .before .before .before .before .before .before .before .before .before .page-at .ensures .1 (s .pages) (s .lefts) (h .pages) in
     let e = c .before .before .before .before .before .before .before .before .before .before .before .before .before .before .before .before .before .before .before .before .before .entry-for .result in
     let r = c .before .before .before .before .before .before .before .before .before .before .before .before .before .make-room .ensures s h in
-    direct-links h (a .k) (a .p) e _ (c .before .before .before .before .before .before .before .before .before .before .before .before .before .before .before .before .before .before .before .before .before .entry-for .ensures ∙ ap (λ (y : Page). entry-for (a .k) (y .entries)) (q .is)) (c .before .before .before .before .before .before .before .before .before .before .before .before .before .before .before .before .before .before .before .page-at2 .ensures .1 (s .pages) (h .pages))
+    direct-links h (a .k) (a .p) e _ (c .before .before .before .before .before .before .before .before .before .before .before .before .before .before .before .before .before .before .before .before .before .entry-for .ensures ∙ ap (λ (y : Page). entry-for (a .k) (y .entries)) (q .is)) (c .before .before .before .before .before .before .before .before .before .before .before .before .before .before .before .before .before .before .before .page-at2 .ensures .1 (s .pages) (s .lefts) (h .pages))
     (c .before .before .before .before .before .before .before .before .before .before .before .before .before .make-room .result) _ _ (omega (arith, c .before .before .before .before .before .before .before .before .before .before .before .before .before .before .before .before .if1 .left)) (r .page)
     (c .before .before .before .before .before .before .link-child .ensures (make-room (a .k) (a .p) s .run) (r .run))
-    (λ y w. c .half .ensures (y .pages) (w .pages))
+    (λ y w. c .half .ensures (y .pages) (y .lefts) (w .pages))
 
 pub direct-spec : {M : Type 1} → statement M
 direct-spec =

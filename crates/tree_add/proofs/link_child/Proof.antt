@@ -10,7 +10,7 @@ returns : tie.Need-returns
 returns c s h =
     let a = c .before .before .before .before .before .before .before .before .before .before .before .before .args in
     let x = c .before .before .before .before .before .before .before .before .page-at in
-    let q = x .ensures .1 (s .pages) (h .pages) in
+    let q = x .ensures .1 (s .pages) (s .lefts) (h .pages) in
     let g = c .before .before .before .before .before .link-row .ensures .0 in
     subst (Shows (a .n) (a .m) _ _ _) (link-is h (c .before .before .before .before .before .before .before .before .before .before .before .before .pre .3) (a .p) (a .q) (a .w) (x .result) q _ g)
     (c .before .before .before .before .emit .ensures s h (link-keeping h (c .before .before .before .before .before .before .before .before .before .before .before .before .pre .3) (a .p) (a .q) (a .w) (x .result) q _ g (c .before .before .before .before .before .before .before .before .before .before .before .before .fits .q .fits) (c .before .before .before .before .before .before .before .before .before .before .before .before .fits .w .fits)))

@@ -8,7 +8,7 @@ use Rattle.tree_lookup.specs.Descent.{fetched-is}
 returns : tie.Need-returns
 returns c =
     let a = c .before .before .before .args in
-    fetched-is (a .k) (pages-of (a .n) (a .pages .now)) _ _ (c .before .leaf-of .ensures) (c .look-in .ensures)
+    fetched-is (a .k) (pages-of (a .n) (a .pages .now)) _ _ (c .before .leaf-of .ensures .1) (c .look-in .ensures)
 
 pub fetched-spec : {M : Type 1} → statement M
 fetched-spec = tie.close (tie.spec (λ c κs. search needs) (λ c κs. search needs) returns)

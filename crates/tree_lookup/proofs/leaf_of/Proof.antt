@@ -27,9 +27,9 @@ loop-again c =
 
 returns : tie.Need-returns Inv-loop μ-loop
 returns c =
-    let a = c .before .before .before .before .before .before .args in
-    let l = c .before .before .before .loop in
-    leaf-end (a .k) (l .p) (pages-of (a .n) (a .pages .now)) (l .l) _ (omega arith) (l .inv) (c .before .covering .ensures .1)
+    let a = c .before .before .before .before .before .args in
+    let l = c .before .before .loop in
+    leaf-end (a .k) (l .p) (pages-of (a .n) (a .pages .now)) (l .l) _ (omega arith) (l .inv) (c .covering .ensures)
 
 pub leaf-of-spec : {M : Type 1} → statement M
 leaf-of-spec =

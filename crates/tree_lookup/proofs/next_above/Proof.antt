@@ -16,15 +16,15 @@ returns c =
 
 returns-2 : tie.Need-returns-2
 returns-2 c =
-    let a = c .before .before .before .before .before .before .before .before .before .args in
+    let a = c .before .before .before .before .before .before .before .before .before .before .args in
     let none-there = sym (c .before .before .before .before .before .seek-in .ensures) ∙ no-slide (c .before .before .before .before .before .seek-in .result) (c .before .before .before .before .match .keys2) in
-    next-after (a .k) (pages-of (a .n) (a .pages .now)) _ _ (c .before .before .before .before .before .before .before .if1 .left) (add-one (a .k)) (c .before .before .before .before .before .before .leaf-of .ensures) _ _ none-there (c .before .nth-page .ensures) (c .first-of .ensures)
+    next-after (a .k) (pages-of (a .n) (a .pages .now)) _ _ (c .before .before .before .before .before .before .before .before .if1 .left) (add-one (a .k)) (c .before .before .before .before .before .before .before .leaf-of .ensures .1) _ _ none-there (c .before .nth-page .ensures) (c .first-of .ensures)
 
 returns-3 : tie.Need-returns-3
 returns-3 c =
-    let a = c .before .before .before .before .before .before .before .args in
+    let a = c .before .before .before .before .before .before .before .before .args in
     let there = sym (c .before .before .before .seek-in .ensures) ∙ ap slide-of (c .before .key .given .1) in
-    next-here (a .k) (pages-of (a .n) (a .pages .now)) _ _ (c .before .before .before .before .before .if1 .left) (add-one (a .k)) (c .before .before .before .before .leaf-of .ensures) _ there
+    next-here (a .k) (pages-of (a .n) (a .pages .now)) _ _ (c .before .before .before .before .before .before .if1 .left) (add-one (a .k)) (c .before .before .before .before .before .leaf-of .ensures .1) _ there
 
 pub next-above-spec : {M : Type 1} → statement M
 next-above-spec =

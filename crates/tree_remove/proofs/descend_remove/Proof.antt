@@ -49,7 +49,7 @@ returns : tie.Need-returns Inv-loop μ-loop
 returns c s h =
     let a = c .before .before .before .before .before .before .args in
     let l = c .before .loop in
-    down-end (a .k) _ _ (l .page) (l .l) s (omega (arith, c .loop-test .left)) (level-is (c .before .before .page-at .ensures .1 (s .pages) (h .pages))) refl (l .inv .2) h
+    down-end (a .k) _ _ (l .page) (l .l) s (omega (arith, c .loop-test .left)) (level-is (c .before .before .page-at .ensures .1 (s .pages) (s .lefts) (h .pages))) refl (l .inv .2) h
 
 pub descend-remove-spec : {M : Type 1} → statement M
 descend-remove-spec =

@@ -11,7 +11,7 @@ returns c s h =
     let a = c .before .before .before .before .before .before .before .before .before .before .before .before .before .args in
     let few = c .before .before .before .before .before .before .before .before .before .before .before .before .before .pre .3 in
     let x = c .before .before .before .before .before .before .before .before .before .page-at in
-    let q = x .ensures .1 (s .pages) (h .pages) in
+    let q = x .ensures .1 (s .pages) (s .lefts) (h .pages) in
     let e = c .before .before .before .before .before .before .list-of .ensures .0 in
     let g = c .before .before .before .before .before .lower-row .ensures .0 in
     subst (Shows (a .n) (a .m) _ _ _) (lower-is h few (a .q) (x .result) q _ e _ g)

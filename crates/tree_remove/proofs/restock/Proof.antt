@@ -17,7 +17,7 @@ returns c s h =
     let x = c .before .before .before .before .before .before .before .before .before .before .before .before .before .before .before .before .before .before .before .page-at in
     let i = c .before .before .before .before .before .before .before .before .before .before .before .before .before .before .before .before .find in
     let f : Entry = entry-at (x .result .entries) (i .result + 1) in
-    subst (Shows (a .n) (a .m) _ _ _) (restock-next s (a .k) (a .q) (a .p) (x .result) (x .ensures .1 (s .pages) (h .pages)) (i .result) f (i .ensures .0) (c .before .before .before .before .before .before .before .before .before .before .before .before .before .before .before .if1 .taken) refl)
+    subst (Shows (a .n) (a .m) _ _ _) (restock-next s (a .k) (a .q) (a .p) (x .result) (x .ensures .1 (s .pages) (s .lefts) (h .pages)) (i .result) f (i .ensures .0) (c .before .before .before .before .before .before .before .before .before .before .before .before .before .before .before .if1 .taken) refl)
     (c .before .before .before .before .unlink-join .ensures (link-after (a .p) (f .val) (f .key) s) (c .before .before .before .before .before .before .before .before .before .before .before .link-after .ensures s h))
 
 returns-2 : tie.Need-returns-2
@@ -26,7 +26,7 @@ returns-2 c s h =
     let x = c .before .before .before .before .before .before .before .before .before .before .before .before .before .before .before .before .before .before .before .page-at in
     let i = c .before .before .before .before .before .before .before .before .before .before .before .before .before .before .before .before .find in
     let f : Entry = c .before .before .before .before .before .before .before .before .before .before .before .before .before .before .before2 .result in
-    subst (Shows (a .n) (a .m) _ _ _) (restock-last s (a .k) (a .q) (a .p) (x .result) (x .ensures .1 (s .pages) (h .pages)) (i .result) f (i .ensures .0) (omega (arith, c .before .before .before .before .before .before .before .before .before .before .before .before .before .before .before .if1 .left)) (c .before .before .before .before .before .before .before .before .before .before .before .before .before .before .before2 .ensures))
+    subst (Shows (a .n) (a .m) _ _ _) (restock-last s (a .k) (a .q) (a .p) (x .result) (x .ensures .1 (s .pages) (s .lefts) (h .pages)) (i .result) f (i .ensures .0) (omega (arith, c .before .before .before .before .before .before .before .before .before .before .before .before .before .before .before .if1 .left)) (c .before .before .before .before .before .before .before .before .before .before .before .before .before .before .before2 .ensures))
     (c .before .before .before .before .join-left .ensures (link-after (a .p) (f .val) (f .key) s) (c .before .before .before .before .before .before .before .before .before .before .before .link-after2 .ensures s h))
 
 pub restock-spec : {M : Type 1} → statement M

@@ -15,12 +15,12 @@ returns c e h =
 returns-2 : tie.Need-returns-2
 returns-2 c e h =
     let a = c .before .before .before .before .before .before .before .before .before .before .before .before .before .before .before .args in
-    subst (ShowsAt (a .n) (a .m) _ _ _) (step-many h (a .k) _ (omega (arith, c .before .before .before .before .before .before .before .before .before .before .before .if1 .left)) (c .before .before .before .before .before .before .before .before .before .page-at .ensures .1 (e .run .pages) (h .run .pages)) (c .before .before .before .before .before .before .before .if2 .taken)) (c .before .before .before .before .stocked2 .ensures e h)
+    subst (ShowsAt (a .n) (a .m) _ _ _) (step-many h (a .k) _ (omega (arith, c .before .before .before .before .before .before .before .before .before .before .before .if1 .left)) (c .before .before .before .before .before .before .before .before .before .page-at .ensures .1 (e .run .pages) (e .run .lefts) (h .run .pages)) (c .before .before .before .before .before .before .before .if2 .taken)) (c .before .before .before .before .stocked2 .ensures e h)
 
 returns-3 : tie.Need-returns-3
 returns-3 c e h =
     let a = c .before .before .before .before .before .before .before .before .before .before .before .before .before .before .before .args in
-    step-lowers h (a .k) _ (omega (arith, c .before .before .before .before .before .before .before .before .before .before .before .if1 .left)) (c .before .before .before .before .before .before .before .before .before .page-at .ensures .1 (e .run .pages) (h .run .pages)) _ (omega (arith, c .before .before .before .before .before .before .before .if2 .left)) (c .before .before .before .before .lower-root .ensures (e .run) (h .run))
+    step-lowers h (a .k) _ (omega (arith, c .before .before .before .before .before .before .before .before .before .before .before .if1 .left)) (c .before .before .before .before .before .before .before .before .before .page-at .ensures .1 (e .run .pages) (e .run .lefts) (h .run .pages)) _ (omega (arith, c .before .before .before .before .before .before .before .if2 .left)) (c .before .before .before .before .lower-root .ensures (e .run) (h .run))
 
 pub step-spec : {M : Type 1} → statement M
 step-spec =

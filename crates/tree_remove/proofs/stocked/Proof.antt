@@ -9,7 +9,7 @@ use Rattle.tree_remove.specs.Joins.{stocked-stays, stocked-joins}
 returns : tie.Need-returns
 returns c e h =
     let a = c .before .before .before .before .before .before .before .args in
-    stocked-stays h (a .k) _ (c .before .before .before .page-at .ensures .1 (e .run .pages) (h .run .pages)) (c .before .if1 .taken)
+    stocked-stays h (a .k) _ (c .before .before .before .page-at .ensures .1 (e .run .pages) (e .run .lefts) (h .run .pages)) (c .before .if1 .taken)
 
 refind-requires : tie.Need-refind-requires
 refind-requires c κs = let p = c .before .before .before .before .before .before .before .before .before .before .before .before .before .before .before .before .before .before .before .before .before .pre in (omega (arith, p, c .before .before .before .before .before .before .before .before .before .before .before .before .make-room .kept .0, c .before .before .before .before .before .restock .kept .0), p .1)
@@ -19,7 +19,7 @@ returns-2 c e h =
     let a = c .before .before .before .before .before .before .before .before .before .before .before .before .before .before .before .before .before .before .before .before .before .before .args in
     let r = c .before .before .before .before .before .before .before .before .before .before .before .before .before .make-room .ensures (e .run) (h .run) in
     let x = c .before .before .before .before .before .before .before .before .before .before .before .before .before .before .before .before .before .before .page-at in
-    stocked-joins h (a .k) (x .result) (x .ensures .1 (e .run .pages) (h .run .pages)) _ (c .before .before .before .before .before .before .before .before .before .before .before .before .before .make-room .result .page) _ (omega (arith, c .before .before .before .before .before .before .before .before .before .before .before .before .before .before .before .before .if1 .left)) (r .page)
+    stocked-joins h (a .k) (x .result) (x .ensures .1 (e .run .pages) (e .run .lefts) (h .run .pages)) _ (c .before .before .before .before .before .before .before .before .before .before .before .before .before .make-room .result .page) _ (omega (arith, c .before .before .before .before .before .before .before .before .before .before .before .before .before .before .before .before .if1 .left)) (r .page)
     (c .before .before .before .before .before .before .restock .ensures (make-room (a .k) (a .d .parent) (e .run) .run) (r .run))
     (λ y w. c .refind .ensures y (w .pages))
 

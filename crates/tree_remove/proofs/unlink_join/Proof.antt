@@ -19,8 +19,8 @@ returns c s h =
     let few = c .before .before .before .before .before .before .before .before .before .before .before .before .before .before .before .before .before .before .before .before .before .pre .3 in
     let x = c .before .before .before .before .before .before .before .before .before .before .before .before .before .before .before .before .before .page-at in
     let y = c .before .before .before .before .before .before .before .before .before .before .before .before .before .before .before .page-at2 in
-    let i = x .ensures .1 (s .pages) (h .pages) in
-    let j = y .ensures .1 (s .pages) (h .pages) in
+    let i = x .ensures .1 (s .pages) (s .lefts) (h .pages) in
+    let j = y .ensures .1 (s .pages) (s .lefts) (h .pages) in
     let g = c .before .before .before .before .before .before .before .before .before .before .before .before .unlink-row .ensures .0 in
     let r : Rec = rec (c .before .before .before .before .before .before .before .before .before .before .before .before .unlink-row .result) in
     subst (Shows (a .n) (a .m) _ _ _) (unlink-is h few (a .p) (a .l) (a .r) (x .result) (y .result) i j r g)

@@ -22,7 +22,7 @@ returns-3 c s h keeps =
     let few : a .t .logged < a .m = omega (arith, c .before .before .before .before .before .before .before .before .before .if2 .left) in
     emit-logs h (rec (a .r)) _ (omega (arith, c .before .before .before .before .before .before .before .before .before .before .before .if1 .left)) few (add-one (a .t .logged))
     (c .before .before .before .before .before .before .write-record .ensures) (c .before .before .before .before .before .before .write-record .kept .0)
-    (c .before .before .redo-record .ensures (s .pages) (h .pages) (subst (λ (i : ℕ). Keeps i (rec (a .r))) (sym (add-one (a .t .logged))) (keeps few)))
+    (c .before .before .redo-record .ensures (s .pages) (s .lefts) (h .pages) (subst (λ (i : ℕ). Keeps i (rec (a .r))) (sym (add-one (a .t .logged))) (keeps few)))
 
 pub emit-spec : {M : Type 1} → statement M
 emit-spec =

@@ -7,7 +7,7 @@ use Rattle.codec_map.specs.Turns.{marks}
 use Rattle.tree_write.specs.Taking.{highest-below, fresh-none, fresh-is}
 
 returns : tie.Need-returns
-returns c = let x = c .before .before .page-at in (search needs, λ xs near h. fresh-none (x .result) near xs h (x .ensures .1 xs h) (c .if1 .taken))
+returns c = let x = c .before .before .page-at in (search needs, λ xs ls near h. fresh-none (x .result) near xs ls h (x .ensures .1 xs ls h) (c .if1 .taken))
 
 cast-result : tie.Need-cast-result
 cast-result c =
@@ -19,7 +19,7 @@ returns-2 c =
     let a = c .before .before .before .before .before .before .args in
     let x = c .before .before .before .before .page-at in (
       omega (arith, c .highest-free .ensures, highest-below (a .n) (marks (x .result .entries)), c .before .before .before .before .before .before .pre),
-      λ xs near h. fresh-is (x .result) near xs h (x .ensures .1 xs h) _ (omega (arith, c .before .before .if1 .left)) (c .highest-free .ensures),
+      λ xs ls near h. fresh-is (x .result) near xs ls h (x .ensures .1 xs ls h) _ (omega (arith, c .before .before .if1 .left)) (c .highest-free .ensures),
     )
 
 pub fresh-spec : {M : Type 1} → statement M

@@ -68,12 +68,13 @@ fn try_bit(
 }
 
 /// The calls that ask for sound areas, with numbers for which the roomy register, undamaged, does them.
-pub fn sound_calls(busy: &Busy) -> [Call; 10] {
+pub fn sound_calls(busy: &Busy) -> [Call; 11] {
     let (batch, other) = (busy.first, busy.second);
     let calls = [
         Call::Begin,
         Call::Fetch { batch, key: 70 },
         Call::Next { batch: other, key: 70 },
+        Call::Previous { batch: other, key: 80 },
         Call::Insert { batch, key: 75, value: 1 },
         Call::Delete { batch: other, key: 80 },
         Call::Commit { batch },

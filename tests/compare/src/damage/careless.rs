@@ -77,9 +77,13 @@ fn try_register(beside: &mut Beside, random: &mut Random, register: Careless) ->
     let written = work.log.records.len();
     // Slots to spare, or so few that a restart or the reserves run short.
     work.log.slots = (written + [0, 5, 40, 700][random.below(4)]).max(FEWEST_SLOTS);
-    let (pages, log) = (work.pages.bytes(), work.log.bytes());
-    let mut areas =
-        Areas { working_pages: pages.clone(), stable_pages: pages, working_log: log.clone(), stable_log: log };
+    let (pages, log) = (&work.pages, work.log.bytes());
+    let mut areas = Areas {
+        working_pages: pages.bytes(),
+        stable_pages: pages.stored().bytes(),
+        working_log: log.clone(),
+        stable_log: log,
+    };
     restart(beside, &areas, "all pages written out")?;
     areas.stable_pages = Pages::formatted(work.pages.count()).bytes();
     restart(beside, &areas, "no page written out")?;

@@ -9,6 +9,7 @@ use reference::bench::forge::forge_image;
 use reference::bench::{run, Instrument, Random, Shape};
 use reference::calls::{redo_alone, Call};
 use reference::layout::{Areas, Desk, Pages, Record};
+use reference::left::link_leaves;
 use reference::sizes::SLOT_BYTES;
 use reference::tree::slides_of;
 
@@ -61,9 +62,10 @@ fn images_of(seed: u64) -> Vec<Areas> {
     images
 }
 
-/// Working areas and a desk as they are between redo and undo.
+/// Working areas and a desk as they are between redo and undo, once the left links are worked out.
 fn redone(image: &Areas) -> Option<(Areas, Desk)> {
-    let (work, _) = redo_alone(image).ok()?;
+    let (mut work, _) = redo_alone(image).ok()?;
+    link_leaves(&mut work.pages);
     let stored = work.log.last_number();
     let areas = Areas { working_pages: work.pages.bytes(), working_log: image.stable_log.clone(), ..image.clone() };
     Some((areas, work.open.desk(stored, stored)))
@@ -80,12 +82,12 @@ fn some_mark(random: &mut Random, areas: &Areas, batch: u32) -> u32 {
 /// Mostly by a batch that is open, on a key that is there.
 fn some_call(random: &mut Random, areas: &Areas, desk: &Desk) -> Call {
     let open: Vec<u32> = desk.rows.iter().map(|row| row.batch).filter(|batch| *batch != 0).collect();
-    let slides = Pages::read(&areas.working_pages).and_then(|pages| slides_of(&pages)).unwrap_or_default();
+    let slides = Pages::read_working(&areas.working_pages).and_then(|pages| slides_of(&pages)).unwrap_or_default();
     let (Some(batch), Some(slide)) = (random.pick(&open), random.pick(&slides)) else {
         return if random.once_in(4) { any_call(random) } else { Call::Begin };
     };
     let key = slide.key.wrapping_add([0, 1, u32::MAX][random.below(3)]);
-    match random.below(12) {
+    match random.below(13) {
         0 => Call::Fetch { batch, key },
         1 => Call::Next { batch, key },
         2 | 3 => Call::Insert { batch, key, value: random.number() },
@@ -94,7 +96,8 @@ fn some_call(random: &mut Random, areas: &Areas, desk: &Desk) -> Call {
         6 => Call::Abort { batch },
         7 => Call::Mark { batch },
         8 | 9 => Call::Return { batch, mark: some_mark(random, areas, batch) },
-        10 => Call::WriteOut { page: random.below(areas.page_count()) as u32 },
+        10 => Call::Previous { batch, key },
+        11 => Call::WriteOut { page: random.below(areas.page_count()) as u32 },
         _ => Call::Begin,
     }
 }

@@ -113,7 +113,7 @@ fn nearly_rising(random: &mut Random) -> Vec<Entry> {
 
 fn page(own: usize, level: usize, right: usize, entries: &[Entry]) -> Page {
     let high = if right == 0 { TOP } else { entries.last().map_or(0, |entry| entry.key) };
-    Page { kind: PageKind::at_level(level), level, right, high, log: 0, own, entries: entries.to_vec() }
+    Page { kind: PageKind::at_level(level), level, right, left: 0, high, log: 0, own, entries: entries.to_vec() }
 }
 
 /// A merge of all that the right page has, or a redistribution of few entries or none, either way.

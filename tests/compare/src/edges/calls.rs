@@ -30,16 +30,17 @@ fn edge_call(random: &mut Random, areas: &Areas, desk: &Desk) -> Call {
         return Call::Begin;
     };
     let key = edge_key(random, areas);
-    match random.below(23) {
+    match random.below(26) {
         0..=3 => Call::Fetch { batch, key },
         4..=6 => Call::Next { batch, key },
-        7..=11 => Call::Insert { batch, key, value: random.number() },
-        12..=15 => Call::Delete { batch, key },
-        16 => Call::Commit { batch },
-        17 => Call::Abort { batch },
-        18 | 19 => Call::Return { batch, mark: edge_mark(random, desk, batch) },
-        20 => Call::Mark { batch },
-        21 => Call::WriteOut { page: random.below(areas.page_count()) as u32 },
+        7..=9 => Call::Previous { batch, key },
+        10..=14 => Call::Insert { batch, key, value: random.number() },
+        15..=18 => Call::Delete { batch, key },
+        19 => Call::Commit { batch },
+        20 => Call::Abort { batch },
+        21 | 22 => Call::Return { batch, mark: edge_mark(random, desk, batch) },
+        23 => Call::Mark { batch },
+        24 => Call::WriteOut { page: random.below(areas.page_count()) as u32 },
         _ => Call::Begin,
     }
 }
@@ -52,7 +53,7 @@ fn edge_mark(random: &mut Random, desk: &Desk, batch: u32) -> u32 {
 }
 
 fn edge_key(random: &mut Random, areas: &Areas) -> u32 {
-    let pages = Pages::read(&areas.working_pages).expect("pages");
+    let pages = Pages::read_working(&areas.working_pages).expect("pages");
     let at_its_end = |page: &&Page| page.is_leaf() && [FEWEST_ENTRIES, MOST_ENTRIES].contains(&page.entries.len());
     let leaves: Vec<&Page> = pages.list.iter().filter(at_its_end).collect();
     let Some(leaf) = random.pick(&leaves).filter(|_| !random.once_in(4)) else {

@@ -1,7 +1,7 @@
 //! Marks and returns: every number as a mark for every batch, on registers with cases that are whole, partly taken back, or
 //! have their abort mark; what follows a return; and the order of the checks.
 
-use super::written::{begin, commit, insert, register, stored_up_to};
+use super::written::{begin, commit, delete, insert, register, stored_up_to};
 use crate::beside::Beside;
 use crate::damage::Tried;
 use crate::difference::Difference;
@@ -24,10 +24,6 @@ pub fn marks() -> Tried {
         tried.map_err(|difference| difference.at(format!("register {place}")))?;
     }
     Ok(beside.tally)
-}
-
-fn delete(work: &mut Work, batch: u32, key: u32) {
-    write_update(work, batch, Kind::Delete, Entry::new(key, key ^ 1)).expect("room");
 }
 
 /// Slides 10 to 200 are filed, a case has been taken back as a whole, and two are open. The first has filled three trays; one

@@ -1,6 +1,7 @@
 //! The edges: the deepest trees, the most pending updates, exact room and one place short of it, the largest counts, first
-//! and last keys, key 0, marks and returns, loads, pages of 4 and 14 entries, and two registers at once.
+//! and last keys, key 0, marks and returns, loads, steps backwards, pages of 4 and 14 entries, and two registers at once.
 
+mod backwards;
 mod calls;
 mod deep;
 mod loading;
@@ -12,6 +13,7 @@ mod tree;
 mod unread;
 mod written;
 
+pub use backwards::backwards;
 pub use deep::{built_trees, risen_tree};
 pub use loading::{all_loads, loads};
 pub use marks::marks;

@@ -37,6 +37,7 @@ fn prepared(thread: u32) -> Prepared {
         Call::Begin,
         Call::Fetch { batch, key },
         Call::Next { batch, key },
+        Call::Previous { batch, key },
         Call::Insert { batch, key: key + 3, value: thread },
         Call::Delete { batch, key },
         Call::Commit { batch },

@@ -2,6 +2,7 @@
 
 use reference::bench::Random;
 use reference::layout::{Entry, Map, Page, PageKind, Pages};
+use reference::left::link_leaves;
 use reference::sizes::{FEWEST_ENTRIES, MAP, MOST_ENTRIES, MOST_PAGES, ROOT, TOP};
 
 /// How many entries each page has, level by level from the root down. Pages get the fewest where the levels below would
@@ -55,6 +56,7 @@ pub fn built(random: &mut Random, levels: usize, fullest: usize) -> Pages {
     for (level, of_level) in counts.iter().rev().enumerate() {
         below = builder.build_level(level, of_level, below);
     }
+    link_leaves(&mut builder.pages);
     builder.pages
 }
 
@@ -74,7 +76,8 @@ impl Builder<'_> {
             let own = own[place];
             entries_above.push(Entry::to_child(high, own));
             self.pages.map.take(own);
-            self.pages.list[own] = Page { kind: PageKind::at_level(level), level, right, high, log: 0, own, entries };
+            let kind = PageKind::at_level(level);
+            self.pages.list[own] = Page { kind, level, right, left: 0, high, log: 0, own, entries };
         }
         entries_above
     }

@@ -22,11 +22,15 @@ pub fn insert(work: &mut Work, batch: u32, key: u32) {
     write_update(work, batch, Kind::Insert, Entry::new(key, key ^ 1)).expect("room");
 }
 
+pub fn delete(work: &mut Work, batch: u32, key: u32) {
+    write_update(work, batch, Kind::Delete, Entry::new(key, key ^ 1)).expect("room");
+}
+
 /// The register with its pages written out long ago, or just now, and all records stored.
 pub fn register(work: &Work, stable_pages: &Pages) -> (Areas, Desk) {
     let (pages, log) = (work.pages.bytes(), work.log.bytes());
-    let areas =
-        Areas { working_pages: pages, stable_pages: stable_pages.bytes(), working_log: log.clone(), stable_log: log };
+    let stable_pages = stable_pages.stored().bytes();
+    let areas = Areas { working_pages: pages, stable_pages, working_log: log.clone(), stable_log: log };
     let written = work.log.last_number();
     (areas, work.open.desk(written, written))
 }
@@ -49,8 +53,7 @@ fn worn() -> Work {
                 insert(&mut work, batch, 16 * next);
                 next += 1;
             } else {
-                let slide = Entry::new(16 * oldest, (16 * oldest) ^ 1);
-                write_update(&mut work, batch, Kind::Delete, slide).expect("room");
+                delete(&mut work, batch, 16 * oldest);
                 oldest += 1;
             }
         }

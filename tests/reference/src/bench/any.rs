@@ -7,19 +7,20 @@ use crate::sizes::{DESK_NUMBERS, FEWEST_PAGES, FEWEST_SLOTS, MOST_PAGES, MOST_SL
 
 pub fn any_call(random: &mut Random) -> Call {
     let (batch, key, value) = (random.below(40) as u32, [0, random.number()][random.below(2)], random.number());
-    match random.below(13) {
+    match random.below(14) {
         0 => Call::Format,
         1 => Call::Begin,
         2 => Call::Fetch { batch, key },
         3 => Call::Next { batch, key },
-        4 => Call::Insert { batch, key, value },
-        5 => Call::Delete { batch, key },
-        6 => Call::Commit { batch },
-        7 => Call::Abort { batch },
-        8 => Call::Mark { batch },
-        9 => Call::Return { batch, mark: random.below(40) as u32 },
-        10 => Call::WriteOut { page: random.below(60) as u32 },
-        11 => Call::Load { columns: any_columns(random) },
+        4 => Call::Previous { batch, key },
+        5 => Call::Insert { batch, key, value },
+        6 => Call::Delete { batch, key },
+        7 => Call::Commit { batch },
+        8 => Call::Abort { batch },
+        9 => Call::Mark { batch },
+        10 => Call::Return { batch, mark: random.below(40) as u32 },
+        11 => Call::WriteOut { page: random.below(60) as u32 },
+        12 => Call::Load { columns: any_columns(random) },
         _ => Call::Restart,
     }
 }

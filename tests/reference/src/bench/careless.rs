@@ -12,7 +12,7 @@ use std::collections::BTreeMap;
 
 pub struct Careless {
     pub work: Work,
-    /// The pages as they were at some moments, first and last among them.
+    /// The pages as a store at some moments would have had them, first and last among them.
     pub moments: Vec<Pages>,
     /// What stands in the leaves while the tree is whole.
     slides: BTreeMap<u32, u32>,
@@ -24,7 +24,7 @@ pub struct Careless {
 pub fn careless(random: &mut Random) -> Careless {
     let work = Work::formatted(random.within(30, 60), 900);
     let keys = [6, 40, 200][random.below(3)];
-    let mut careless = Careless { moments: vec![work.pages.clone()], work, slides: BTreeMap::new(), keys };
+    let mut careless = Careless { moments: vec![work.pages.stored()], work, slides: BTreeMap::new(), keys };
     let steps = random.within(3, 40);
     let _ = careless.fill(random).and_then(|()| (0..steps).try_for_each(|_| careless.step(random)));
     for _ in 0..[0, 0, 1, 3][random.below(4)] {
@@ -33,7 +33,7 @@ pub fn careless(random: &mut Random) -> Careless {
     if random.once_in(10) {
         let _ = careless.thin_root(random);
     }
-    careless.moments.push(careless.work.pages.clone());
+    careless.moments.push(careless.work.pages.stored());
     careless
 }
 
@@ -63,7 +63,7 @@ impl Careless {
             5 if batch.pending.is_empty() => self.work.write_about_batch(Kind::End, batch.number),
             6 | 7 => self.undo(&batch),
             8 => {
-                self.moments.push(self.work.pages.clone());
+                self.moments.push(self.work.pages.stored());
                 Ok(())
             }
             _ if !batch.marked => self.update(random, batch.number),

@@ -1,4 +1,4 @@
-//! The commands of the vectors: lend, cut, damage, and the thirteen calls.
+//! The commands of the vectors: lend, cut, damage, and the fourteen calls.
 
 use super::line::read_line;
 use crate::calls::{Call, Columns};
@@ -74,6 +74,7 @@ fn read_other_call(letter: u8, numbers: &[u64]) -> Option<Call> {
         (b'R', []) => Some(Call::Restart),
         (b'M', &[batch]) => Some(Call::Mark { batch }),
         (b'T', &[batch, mark]) => Some(Call::Return { batch, mark }),
+        (b'V', &[batch, key]) => Some(Call::Previous { batch, key }),
         _ => None,
     }
 }
@@ -85,6 +86,7 @@ pub fn letter_of(call: &Call) -> char {
         Call::Begin => 'B',
         Call::Fetch { .. } => 'F',
         Call::Next { .. } => 'N',
+        Call::Previous { .. } => 'V',
         Call::Insert { .. } => 'I',
         Call::Delete { .. } => 'D',
         Call::Commit { .. } => 'C',
@@ -112,9 +114,10 @@ impl fmt::Display for Command {
                         keys.iter().chain(*values).try_for_each(|number| write!(to, " {number}"))
                     }
                     Call::Insert { batch, key, value } => write!(to, " {batch} {key} {value}"),
-                    Call::Fetch { batch, key } | Call::Next { batch, key } | Call::Delete { batch, key } => {
-                        write!(to, " {batch} {key}")
-                    }
+                    Call::Fetch { batch, key }
+                    | Call::Next { batch, key }
+                    | Call::Previous { batch, key }
+                    | Call::Delete { batch, key } => write!(to, " {batch} {key}"),
                     Call::Commit { batch } | Call::Abort { batch } | Call::Mark { batch } => write!(to, " {batch}"),
                     Call::Return { batch, mark } => write!(to, " {batch} {mark}"),
                     Call::WriteOut { page } => write!(to, " {page}"),

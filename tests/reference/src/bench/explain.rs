@@ -52,14 +52,16 @@ fn explain_slots(area: &str, before: &[u8], after: &[u8], output: &mut String) {
 }
 
 fn page_fields(bytes: &[u8]) -> String {
-    let Page { kind, level, right, high, log, own, entries } = Page::read(bytes);
+    let Page { kind, level, right, left, high, log, own, entries } = Page::read(bytes);
     if kind == PageKind::Map {
         let map = Map::read(bytes);
         let used: Vec<String> = (0..Map::BITS).filter(|page| map.is_used(*page)).map(|page| page.to_string()).collect();
         return format!("map log={log} used={}", used.join(","));
     }
     let (kind, count, list) = (kind as u8, entries.len(), entry_list(&entries));
-    format!("kind={kind} level={level} count={count} right={right} high={high} log={log} own={own}{list}")
+    // Few pages have one, and no stable ones.
+    let left = if left == 0 { String::new() } else { format!(" left={left}") };
+    format!("kind={kind} level={level} count={count} right={right}{left} high={high} log={log} own={own}{list}")
 }
 
 fn slot_fields(bytes: &[u8]) -> String {

@@ -1,4 +1,5 @@
-//! Forged registers, for demand 1: turned bits, and stored images that keep their layout but not their sense.
+//! Forged registers, for demand 1: turned bits, stored images that keep their layout but not their sense, and left links that
+//! lead elsewhere.
 
 use super::Random;
 use crate::layout::{Areas, Entry, Kind, Page, PageKind, Pages, Record};
@@ -107,10 +108,25 @@ pub fn permute(random: &mut Random, entries: &mut [Entry]) {
     }
 }
 
+/// Give a working leaf, in the tree or not, another left link: none, its own number, its right neighbour's, or any. None
+/// where the pages do not keep their layout already.
+pub fn forge_left_link(random: &mut Random, areas: &Areas) -> Option<Areas> {
+    let mut pages = Pages::read_working(&areas.working_pages).ok()?;
+    let leaves: Vec<usize> = (0..pages.count()).filter(|page| pages.list[*page].is_leaf()).collect();
+    let leaf = &mut pages.list[random.pick(&leaves)?];
+    leaf.left = some_left_link(random, leaf);
+    Some(Areas { working_pages: pages.bytes(), ..areas.clone() })
+}
+
+fn some_left_link(random: &mut Random, page: &Page) -> usize {
+    [0, page.own, page.right, random.below(20), random.below(1024)][random.below(5)]
+}
+
 /// Change what a page is or holds, in a way that the layout mostly allows. The map stays.
 pub fn forge_page(random: &mut Random, page: &mut Page) {
-    match random.below(8) {
+    match random.below(9) {
         _ if page.kind == PageKind::Map => {}
+        8 => page.left = some_left_link(random, page),
         7 => page.entries.splice(..0, vec![Entry::new(0, 1); MOST_ENTRIES - page.entries.len()]).for_each(drop),
         0 => *page = Page::free(page.own, page.log),
         1 => page.entries.truncate(random.below(5)),

@@ -38,7 +38,7 @@ pub fn full_register() -> Work {
 pub fn image_of(work: &Work, pages: usize, slots: usize) -> Areas {
     let mut areas = Areas {
         working_pages: vec![0xA5; pages * PAGE_BYTES],
-        stable_pages: work.pages.bytes(),
+        stable_pages: work.pages.stored().bytes(),
         working_log: vec![0xA5; slots * SLOT_BYTES],
         stable_log: work.log.bytes(),
     };

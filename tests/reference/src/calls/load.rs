@@ -5,6 +5,7 @@ use super::batch::ask_lengths;
 use super::update::UNREAD;
 use super::{Answer, Outcome};
 use crate::layout::{Areas, Desk, Entry, Pages, Store};
+use crate::left::link_leaves;
 use crate::log::Work;
 use crate::sizes::SLOT_BYTES;
 use crate::tree::pages_for;
@@ -61,12 +62,13 @@ fn try_load(areas: &Areas, columns: Columns) -> Result<Pages, Refusal> {
     pages_for(&records, areas.page_count()).ok_or(Refusal::PagesShort)
 }
 
-/// The pages and an empty log, in the working and in the stable areas.
+/// The pages and an empty log, in the working and in the stable areas. The working leaves get their left links.
 fn written(areas: &Areas, pages: Pages) -> Outcome {
-    let work = Work { pages, ..Work::formatted(areas.page_count(), areas.slot_count()) };
-    let page_store = |page| Store::Page { page, bytes: work.pages.page_bytes(page) };
+    let page_store = |page| Store::Page { page, bytes: pages.page_bytes(page) };
     let slot_store = |slot| Store::Slot { slot, bytes: [0; SLOT_BYTES] };
-    let pages = (0..areas.page_count()).map(page_store);
-    let stores = pages.chain((0..areas.slot_count()).map(slot_store)).collect();
+    let page_stores = (0..areas.page_count()).map(page_store);
+    let stores = page_stores.chain((0..areas.slot_count()).map(slot_store)).collect();
+    let mut work = Work { pages, ..Work::formatted(areas.page_count(), areas.slot_count()) };
+    link_leaves(&mut work.pages);
     Outcome::done(areas, &work, 0, stores, Answer::Done)
 }

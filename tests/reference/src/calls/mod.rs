@@ -1,4 +1,4 @@
-//! The thirteen calls, each a function from areas and desk to an outcome. Checks go in the order of the refusals' numbers.
+//! The fourteen calls, each a function from areas and desk to an outcome. Checks go in the order of the refusals' numbers.
 
 mod batch;
 mod begin;
@@ -33,6 +33,7 @@ pub enum Call {
     Begin,
     Fetch { batch: u32, key: u32 },
     Next { batch: u32, key: u32 },
+    Previous { batch: u32, key: u32 },
     Insert { batch: u32, key: u32, value: u32 },
     Delete { batch: u32, key: u32 },
     Commit { batch: u32 },
@@ -63,6 +64,7 @@ pub fn call(areas: &Areas, desk: &Desk, call: Call) -> Outcome {
         Call::Begin => begin::begin(areas, desk),
         Call::Fetch { batch, key } => read::fetch(areas, desk, batch, key),
         Call::Next { batch, key } => read::next(areas, desk, batch, key),
+        Call::Previous { batch, key } => read::previous(areas, desk, batch, key),
         Call::Insert { batch, key, value } => update::insert(areas, desk, batch, key, value),
         Call::Delete { batch, key } => update::delete(areas, desk, batch, key),
         Call::Commit { batch } => end::commit(areas, desk, batch),

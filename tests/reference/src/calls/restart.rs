@@ -1,9 +1,10 @@
-//! Restart: redo all, then undo what the open batches have pending, then store the new records.
+//! Restart: redo all, work out the left links, undo what the open batches have pending, then store the new records.
 
 use super::outcome::store_records;
 use super::undo::undo_newest;
 use super::{Answer, Outcome};
 use crate::layout::{Areas, Desk, Kind};
+use crate::left::link_leaves;
 use crate::log::{obeys_pending_rule, redo, Update, Work};
 use crate::tree::slides_of;
 use crate::{Fault, Place, Refusal};
@@ -39,6 +40,8 @@ pub fn try_restart(areas: &Areas) -> Result<Restarted, Fault> {
     let (mut work, changes) = redo_alone(areas)?;
     let slides = slides_of(&work.pages)?;
     obeys_pending_rule(&work.open, &slides)?;
+    // Undo changes the tree, and from here on every change keeps them.
+    link_leaves(&mut work.pages);
     let stored = work.log.last_number();
     let ended = end_all(&mut work).map_err(|refusal| short(refusal, &work))?;
     Ok(Restarted { work, stored, answer: Answer::Restarted { ended, changes } })
@@ -60,6 +63,7 @@ fn short(refusal: Refusal, work: &Work) -> Fault {
 }
 
 /// The stable areas with every change redone and nothing undone, and how many page changes that took. Checks 1, 3, 4, 5.
+/// There are no left links yet.
 pub fn redo_alone(areas: &Areas) -> Result<(Work, u32), Fault> {
     if !areas.lengths_are_right() {
         return Err(Fault::new(

@@ -1,6 +1,7 @@
 //! Sound (refusal 11): what every call that works on the working areas asks of them and of the desk first.
 
 use crate::layout::{Areas, Desk, Entry};
+use crate::left::left_links_agree;
 use crate::log::{is_empty_slot, obeys_pending_rule, Work};
 use crate::sizes::{BATCH_RECORDS, SLOT_BYTES, UPDATE_PAGES, UPDATE_RECORDS};
 use crate::tree::slides_of;
@@ -15,9 +16,10 @@ pub struct Sound {
 
 /// None if the working areas or the desk are not sound. The lengths are right.
 pub fn sound(areas: &Areas, desk: &Desk) -> Option<Sound> {
-    let work = Work::read(&areas.working_pages, &areas.working_log).ok()?;
+    let work = Work::read_working(&areas.working_pages, &areas.working_log).ok()?;
     let slides = slides_of(&work.pages).ok()?;
-    let holds = obeys_pending_rule(&work.open, &slides).is_ok()
+    let holds = left_links_agree(&work.pages)
+        && obeys_pending_rule(&work.open, &slides).is_ok()
         && *desk == work.open.desk(work.log.last_number(), desk.stored)
         && stored_count_is_right(areas, desk)
         && reserves_hold(&work);

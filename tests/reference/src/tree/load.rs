@@ -1,5 +1,5 @@
 //! The pages of a loaded register (02, U3), from its records and the number of pages alone: what is stored when is the
-//! call's matter.
+//! call's matter, and so are the left links, which are not stored.
 
 use crate::layout::{Entry, Page, PageKind, Pages};
 use crate::sizes::{FEWEST_ENTRIES, MOST_ENTRIES, ROOT, TOP};
@@ -66,7 +66,7 @@ fn fill_level(pages: &mut Pages, level: usize, first: usize, sizes: &[usize], en
         let high = group.last().filter(|_| !is_last).map_or(TOP, |last| last.key);
         let right = if is_last { 0 } else { own + 1 };
         let kind = PageKind::at_level(level);
-        pages.list[own] = Page { kind, level, right, high, log: 0, own, entries: group.to_vec() };
+        pages.list[own] = Page { kind, level, right, left: 0, high, log: 0, own, entries: group.to_vec() };
         pages.map.take(own);
         links.push(Entry::to_child(high, own));
     }

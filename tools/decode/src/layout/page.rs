@@ -1,14 +1,20 @@
-//! A page: kind 2, level 4, count 4, right link 10, spare 12; high key 32; page log number 32; own page number 10,
-//! spare 22; then 14 entries of 64 bits.
+//! A page: kind 2, level 4, count 4, right link 10, left link 10, spare 2; high key 32; page log number 32; own page
+//! number 10, spare 22; then 14 entries of 64 bits. Only working leaves have a left link (02, U5): in all other pages, and
+//! in all stable ones, its bits are spare.
 
 use super::entry::{read_entries, write_entries, Entry};
 use super::words::{field, in_field, set_word, word};
 use crate::sizes::{ENTRY_BYTES, MAP, MOST_ENTRIES, PAGE_BYTES};
 
-/// Where kind, level, count and right link stand; the own number; and the entries, or the map's bits.
+/// Where kind, level, count and right link stand; where the left link begins; the own number; and the entries, or the
+/// map's bits.
 pub const HEAD: usize = 0;
+pub const LEFT: usize = 2;
 pub const OWN: usize = 12;
 pub const BODY: usize = 16;
+
+/// Fine, or the byte of the page and the rule that it breaks.
+pub type Judged = Result<(), (usize, String)>;
 
 #[derive(Clone, Copy, Debug, PartialEq, Eq)]
 pub enum PageKind {
@@ -39,6 +45,8 @@ pub struct Page {
     pub level: usize,
     /// The page to the right on the same level, 0 for none.
     pub right: usize,
+    /// The leaf to the left of a working leaf, 0 for none.
+    pub left: usize,
     pub high: u32,
     /// The number of the last record that changed this page.
     pub log: u32,
@@ -49,7 +57,12 @@ pub struct Page {
 
 impl Page {
     pub fn free(own: usize, log: u32) -> Page {
-        Page { kind: PageKind::Free, level: 0, right: 0, high: 0, log, own, entries: Vec::new() }
+        Page { kind: PageKind::Free, level: 0, right: 0, left: 0, high: 0, log, own, entries: Vec::new() }
+    }
+
+    /// The page as it is stored: "in working pages only; write-out stores it as zero".
+    pub fn stored(&self) -> Page {
+        Page { left: 0, ..self.clone() }
     }
 
     pub fn is_leaf(&self) -> bool {
@@ -78,6 +91,7 @@ impl Page {
             kind,
             level: field(head, 2, 4),
             right: field(head, 10, 10),
+            left: if kind == PageKind::Leaf { field(head, 20, 10) } else { 0 },
             high: word(bytes, 1),
             log: word(bytes, 2),
             own: field(word(bytes, 3), 0, 10),
@@ -90,7 +104,8 @@ impl Page {
         let head = in_field(self.kind as usize, 0, 2)
             | in_field(self.level, 2, 4)
             | in_field(self.entries.len(), 6, 4)
-            | in_field(self.right, 10, 10);
+            | in_field(self.right, 10, 10)
+            | in_field(self.left, 20, 10);
         set_word(&mut bytes, 0, head);
         set_word(&mut bytes, 1, self.high);
         set_word(&mut bytes, 2, self.log);
@@ -99,8 +114,8 @@ impl Page {
         bytes
     }
 
-    /// What the layout asks of a page at its place, its spare bits and unused entries aside. Else the byte, and the rule.
-    pub fn judge_layout(&self, place: usize) -> Result<(), (usize, String)> {
+    /// What the layout asks of a page at its place, its spare bits and unused entries aside.
+    pub fn judge_layout(&self, place: usize) -> Judged {
         if (self.kind == PageKind::Map) != (place == MAP) {
             return Err((HEAD, "page 0 is the map, and no other page is".to_string()));
         }
@@ -122,7 +137,7 @@ impl Page {
         }
     }
 
-    fn judge_index(&self) -> Result<(), (usize, String)> {
+    fn judge_index(&self) -> Judged {
         if self.level == 0 {
             return Err((HEAD, "an index page has level 0".to_string()));
         }

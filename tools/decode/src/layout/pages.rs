@@ -1,6 +1,6 @@
 //! A whole area of pages: the map and the pages at their places.
 
-use super::page::{BODY, HEAD};
+use super::page::{Judged, BODY, HEAD, LEFT};
 use super::{Map, Page, PageKind};
 use crate::sizes::{MAP, MOST_ENTRIES, PAGE_BYTES, ROOT, TOP};
 use crate::{Fault, Place, Refusal};
@@ -31,21 +31,40 @@ impl Pages {
         Pages { map: Map::read(area), list: area.chunks_exact(PAGE_BYTES).map(Page::read).collect() }
     }
 
-    /// Refused (3) at the first page that breaks the layout.
+    /// Stable pages. Refused (3) at the first one that breaks the layout.
     pub fn read(area: &[u8]) -> Result<Pages, Fault> {
+        Pages::judged(area, Pages::judge_page)
+    }
+
+    /// Working pages, whose leaves have left links.
+    pub fn read_working(area: &[u8]) -> Result<Pages, Fault> {
+        Pages::judged(area, Pages::judge_working_page)
+    }
+
+    fn judged(area: &[u8], judge: fn(&Pages, usize, &[u8]) -> Judged) -> Result<Pages, Fault> {
         if area.len() % PAGE_BYTES != 0 {
             return Err(Fault::new(Refusal::Layout, Place::Areas, "the pages end in a part of one"));
         }
         let pages = Pages::shown(area);
         for (place, bytes) in area.chunks_exact(PAGE_BYTES).enumerate() {
             let fault = |(byte, rule)| Fault::new(Refusal::Layout, Place::PageByte(place, byte), rule);
-            pages.judge_page(place, bytes).map_err(fault)?;
+            judge(&pages, place, bytes).map_err(fault)?;
         }
         Ok(pages)
     }
 
-    /// Whether a page keeps the layout, and its bytes are those of its fields. Else the byte, and the rule.
-    pub fn judge_page(&self, place: usize, bytes: &[u8]) -> Result<(), (usize, String)> {
+    /// Whether a stable page keeps the layout.
+    pub fn judge_page(&self, place: usize, bytes: &[u8]) -> Judged {
+        self.judge_working_page(place, bytes)?;
+        match self.list[place].left {
+            0 => Ok(()),
+            left => Err((LEFT, format!("it has the left link {left}, and only working pages have one"))),
+        }
+    }
+
+    /// Whether a working page keeps the layout, and its bytes are those of its fields. Where its left link leads to is not
+    /// the layout's matter.
+    fn judge_working_page(&self, place: usize, bytes: &[u8]) -> Judged {
         self.list[place].judge_layout(place)?;
         if place == MAP {
             self.judge_map()?;
@@ -60,7 +79,7 @@ impl Pages {
     }
 
     /// Bits at or above the page count are spare.
-    fn judge_map(&self) -> Result<(), (usize, String)> {
+    fn judge_map(&self) -> Judged {
         match (self.count()..Map::BITS).find(|page| self.map.is_used(*page)) {
             Some(page) => Err((BODY + page / 8, format!("it marks page {page}, which is not lent"))),
             None => Ok(()),
@@ -77,6 +96,11 @@ impl Pages {
 
     pub fn bytes(&self) -> Vec<u8> {
         (0..self.count()).flat_map(|page| self.page_bytes(page)).collect()
+    }
+
+    /// The pages as they are stored.
+    pub fn stored(&self) -> Pages {
+        Pages { map: self.map.clone(), list: self.list.iter().map(Page::stored).collect() }
     }
 
     pub fn count(&self) -> usize {

@@ -1,5 +1,5 @@
 //! What a record does to each page that it changes. The descent and redo both use this, so a change is the same whether
-//! it is made or made again.
+//! it is made or made again. Left links are none of its matter: redo has none (`left`).
 
 use super::change::{moves_into_a, Role};
 use crate::layout::{entry_place, Entry, Kind, Page, PageKind, Pages, Record};
@@ -98,6 +98,7 @@ fn new_page(record: &Record, own: usize, right: usize, high: u32) -> Page {
         kind: PageKind::at_level(record.level),
         level: record.level,
         right,
+        left: 0,
         high,
         log: record.own,
         own,

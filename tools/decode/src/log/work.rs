@@ -4,6 +4,7 @@ use super::apply::apply;
 use super::change::page_changes;
 use super::{Log, OpenBatches};
 use crate::layout::{Kind, Page, Pages, Record};
+use crate::left::link_after;
 use crate::{Fault, Place, Refusal};
 
 #[derive(Clone, Debug, PartialEq, Eq)]
@@ -20,9 +21,17 @@ impl Work {
         Work { pages: Pages::formatted(pages), log, open: OpenBatches::default() }
     }
 
-    /// Restart's checks 3 and 4, on any pair of a page area and a log area of right lengths.
+    /// Restart's checks 3 and 4, on stable areas of right lengths.
     pub fn read(page_area: &[u8], log_area: &[u8]) -> Result<Work, Fault> {
-        let pages = Pages::read(page_area)?;
+        Work::with_log(Pages::read(page_area)?, log_area)
+    }
+
+    /// The same on working areas, whose leaves have left links.
+    pub fn read_working(page_area: &[u8], log_area: &[u8]) -> Result<Work, Fault> {
+        Work::with_log(Pages::read_working(page_area)?, log_area)
+    }
+
+    fn with_log(pages: Pages, log_area: &[u8]) -> Result<Work, Fault> {
         let log = Log::read(log_area, pages.count())?;
         let open = OpenBatches::after(&log.records)?;
         match pages.list.iter().position(|page| page.log > log.last_number()) {
@@ -56,6 +65,7 @@ impl Work {
         for (role, number) in page_changes(&record) {
             apply(&mut self.pages, &record, role, number);
         }
+        link_after(&mut self.pages, &record);
         self.log.records.push(record);
         Ok(())
     }

@@ -33,7 +33,7 @@ impl Aged {
     /// Just formatted.
     pub fn new(pages: usize, slots: usize) -> Aged {
         let work = Work::formatted(pages, slots);
-        Aged { stable_pages: work.pages.bytes(), work, slides: BTreeMap::new(), stored: 0 }
+        Aged { stable_pages: work.pages.stored().bytes(), work, slides: BTreeMap::new(), stored: 0 }
     }
 
     pub fn begin(&mut self) -> u32 {
@@ -91,7 +91,7 @@ impl Aged {
 
     pub fn write_out(&mut self, page: usize) {
         self.stored = self.work.log.records.len();
-        let bytes = self.work.pages.page_bytes(page);
+        let bytes = self.work.pages.stored().page_bytes(page);
         self.stable_pages[page * PAGE_BYTES..][..PAGE_BYTES].copy_from_slice(&bytes);
     }
 

@@ -2,7 +2,7 @@
 //! it is the desk that is damaged, which a restart makes anew.
 
 use super::maker::Maker;
-use crate::bench::forge::{forge_image, turn_a_bit};
+use crate::bench::forge::{forge_image, forge_left_link, turn_a_bit};
 use crate::bench::Command;
 use crate::calls::Call;
 use crate::layout::Areas;
@@ -12,17 +12,19 @@ pub fn damage(maker: &mut Maker) {
     if maker.random.once_in(8) {
         return damage_desk(maker);
     }
+    let batch = maker.some_batch().unwrap_or_default();
     let areas = &maker.instrument.areas;
     let mut damaged = areas.clone();
     if maker.random.once_in(3) {
         turn_a_bit(&mut maker.random, &mut damaged);
-    } else if let Some(forged) = forge_image(&mut maker.random, areas) {
-        damaged = forged;
+    } else {
+        let forge = if maker.random.once_in(6) { forge_left_link } else { forge_image };
+        damaged = forge(&mut maker.random, areas).unwrap_or(damaged);
     }
     let differences = differences(areas, &damaged);
     maker.run_all(&differences);
     if maker.random.once_in(2) {
-        some_calls(maker);
+        some_calls(maker, batch);
     }
     // Turning the same bits again takes the damage back, where no call took it up.
     if maker.make(Call::Restart).answer.is_err() && maker.random.once_in(8) {
@@ -43,17 +45,17 @@ fn damage_desk(maker: &mut Maker) {
     maker.make(Call::Restart);
 }
 
-fn some_calls(maker: &mut Maker) {
+/// Calls of a batch that was open before the damage, and others.
+fn some_calls(maker: &mut Maker, batch: u32) {
     let page = maker.random.below(maker.page_count()) as u32;
+    let key = maker.keys.any(&mut maker.random);
     maker.make(Call::Begin);
-    if let Some(batch) = maker.some_batch() {
-        let key = maker.keys.any(&mut maker.random);
-        maker.make(Call::Next { batch, key });
-        maker.make(Call::Insert { batch, key, value: 4 });
-        maker.make(Call::Mark { batch });
-        maker.make(Call::Return { batch, mark: batch });
-        maker.make(Call::Commit { batch });
-    }
+    maker.make(Call::Next { batch, key });
+    maker.make(Call::Previous { batch, key });
+    maker.make(Call::Insert { batch, key, value: 4 });
+    maker.make(Call::Mark { batch });
+    maker.make(Call::Return { batch, mark: batch });
+    maker.make(Call::Commit { batch });
     maker.make(Call::WriteOut { page });
 }
 

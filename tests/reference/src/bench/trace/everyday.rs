@@ -56,7 +56,8 @@ pub fn read_call(maker: &mut Maker) -> Option<Call> {
         0 => maker.keys.present(&mut maker.random, slides),
         _ => maker.keys.any(&mut maker.random),
     };
-    Some(if maker.random.once_in(2) { Call::Fetch { batch, key } } else { Call::Next { batch, key } })
+    let calls = [Call::Fetch { batch, key }, Call::Next { batch, key }, Call::Previous { batch, key }];
+    maker.random.pick(&calls)
 }
 
 /// Mostly commits: an abort takes as many records again.

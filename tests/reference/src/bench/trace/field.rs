@@ -78,10 +78,12 @@ pub fn ask_for_slide_0(maker: &mut Maker) {
         return;
     };
     let key = 0;
-    let made = match maker.random.below(8) {
+    let made = match maker.random.below(9) {
         0..=2 => Call::Fetch { batch, key },
         3 => Call::Next { batch, key },
-        4 | 5 => Call::Delete { batch, key },
+        // Nothing but slide 0 is below.
+        4 => Call::Previous { batch, key: 1 },
+        5 | 6 => Call::Delete { batch, key },
         _ => Call::Insert { batch, key, value: 6 },
     };
     maker.make(made);

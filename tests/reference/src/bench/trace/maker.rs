@@ -27,7 +27,7 @@ fn may_have_changed(event: &Event) -> bool {
     match event.call {
         _ if event.was_cut => true,
         made if made.starts_anew() => true,
-        Call::Fetch { .. } | Call::Next { .. } | Call::Mark { .. } => false,
+        Call::Fetch { .. } | Call::Next { .. } | Call::Previous { .. } | Call::Mark { .. } => false,
         _ => event.answer.is_ok(),
     }
 }

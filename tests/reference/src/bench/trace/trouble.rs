@@ -182,7 +182,7 @@ fn rarely(maker: &mut Maker) {
 fn senseless_call(maker: &mut Maker) -> Call {
     let (batch, key, value) = (wrong_batch(maker), maker.random.number(), maker.random.number());
     let key = [0, key][maker.random.below(2)];
-    match maker.random.below(13) {
+    match maker.random.below(14) {
         0 => Call::Begin,
         1 => Call::Fetch { batch, key },
         2 => Call::Next { batch, key },
@@ -193,9 +193,10 @@ fn senseless_call(maker: &mut Maker) -> Call {
         7 => Call::WriteOut { page: maker.random.below(900) as u32 },
         8 => Call::Mark { batch },
         9 => Call::Return { batch, mark: key },
+        10 => Call::Previous { batch, key },
         // Away from sound areas this is refused where the lengths are wrong, and else it is one more formatting.
-        10 if !maker.instrument.areas.lengths_are_right() => some_formatting(maker),
-        11 => refused_load(maker),
+        11 if !maker.instrument.areas.lengths_are_right() => some_formatting(maker),
+        12 => refused_load(maker),
         _ => Call::WriteOut { page: maker.random.number() },
     }
 }
@@ -225,6 +226,7 @@ fn wrong_batch_call(maker: &mut Maker) -> Option<Call> {
     let calls = [
         Call::Fetch { batch, key },
         Call::Next { batch, key },
+        Call::Previous { batch, key },
         Call::Insert { batch, key, value: 1 },
         Call::Insert { batch, key: 0, value: 1 },
         Call::Delete { batch, key },
@@ -246,13 +248,14 @@ fn held_key_call(maker: &mut Maker) -> Option<Call> {
     let calls = [
         Call::Fetch { batch, key },
         Call::Next { batch, key: key.saturating_sub(1) },
+        Call::Previous { batch, key: key.saturating_add(1) },
         Call::Insert { batch, key, value: 2 },
         Call::Delete { batch, key },
     ];
     maker.random.pick(&calls)
 }
 
-/// An insert of a key that is there, or a delete or fetch of one that is not, or a next above all.
+/// An insert of a key that is there, or a delete or fetch of one that is not, or a next above all, or a previous below all.
 fn key_of_the_wrong_kind(maker: &mut Maker) -> Option<Call> {
     let batch = maker.some_batch()?;
     let slides = &maker.sound.as_ref()?.slides;
@@ -263,6 +266,7 @@ fn key_of_the_wrong_kind(maker: &mut Maker) -> Option<Call> {
         Call::Delete { batch, key: absent },
         Call::Fetch { batch, key: absent },
         Call::Next { batch, key: TOP },
+        Call::Previous { batch, key: 0 },
     ];
     maker.random.pick(&calls)
 }
