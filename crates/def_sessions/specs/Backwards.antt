@@ -3,10 +3,10 @@ use Prim.Native.Nat.{ℕ, suc, _+_, _*_}
 use mathlib.Core.List.{List, [], _∷_, _++_, map}
 use lib.ListN.{replicate}
 use Rattle.def_layout.specs.Entries.{top}
-use Rattle.def_model.specs.OnBytes.{begin, restart, next, previous, insert, delete, commit, write-out}
-use Rattle.def_sessions.specs.Play.{Session, Step, ask, forge-left, See, page-left, page-right, page-kind-is, page-bytes-from}
+use Rattle.def_model.specs.OnBytes.{Call, begin, restart, next, previous, insert, delete, commit, abort, return-to, write-out}
+use Rattle.def_sessions.specs.Play.{Session, Step, ask, forge-low-bits, See, page-left, page-right, page-kind-is, page-count, page-bytes-from, stored-bytes-from}
 use Rattle.def_sessions.specs.Table.{answers, refused, of-size, done, power-cut}
-use Rattle.def_sessions.specs.Imports.{loads}
+use Rattle.def_sessions.specs.Imports.{loads, import}
 
 -- "the mirror of next .. 16 also means none below": in a leaf, and from a leaf to the one to its left. Leaves have 10 and 5 slides.
 abbrev pub stepping : Session
@@ -48,6 +48,31 @@ links-merged =
     (done ∷ answers 1 ∷ done ∷ done ∷ done ∷ done ∷ done ∷ done ∷ done ∷ (0 ∷ 300 ∷ 30 ∷ []) ∷ (0 ∷ 180 ∷ 18 ∷ []) ∷ [])
     (page-kind-is 4 0 ∷ page-left 4 0 ∷ page-left 3 2 ∷ page-right 3 5 ∷ page-left 5 3 ∷ [])
 
+-- The last leaf merged away, and then the root lowered: a root leaf has no link, and neither have the freed pages.
+abbrev pub links-lowered : Session
+links-lowered =
+    of-size 64 512 (loads 15 ∷ ask begin ∷ map (λ k. ask (delete 1 k)) (150 ∷ 140 ∷ 130 ∷ []) ++ ask (previous 1 top) ∷ [])
+    (done ∷ answers 1 ∷ done ∷ done ∷ done ∷ (0 ∷ 120 ∷ 12 ∷ []) ∷ []) (page-kind-is 1 1 ∷ page-left 1 0 ∷ page-kind-is 2 0 ∷ page-left 2 0 ∷ page-kind-is 3 0 ∷ page-left 3 0 ∷ [])
+
+-- An undo that merges. Leaves have 10, 10 and 4; batch 1 files two slides on the last, and batch 4 takes two others from it. The call given takes batch 1's slides back. The register is sound then: no 11 comes before the 12 to a batch that is not there.
+abbrev pub links-taken-back : Call → Session
+links-taken-back c =
+    of-size 96 1024 (loads 24 ∷ ask begin ∷ ask (insert 1 215 1) ∷ ask (insert 1 225 1) ∷ ask begin ∷ ask (delete 4 210) ∷ ask (delete 4 220) ∷ ask (commit 4) ∷ ask c ∷ ask (previous 2 240) ∷ [])
+    (done ∷ answers 1 ∷ done ∷ done ∷ answers 4 ∷ done ∷ done ∷ done ∷ done ∷ refused 12 ∷ []) (page-kind-is 4 0 ∷ page-left 4 0 ∷ page-right 3 0 ∷ page-left 3 2 ∷ page-count 3 12 ∷ [])
+
+-- Loaded: leaves in a row under the root, and under an index level, whose pages have none.
+abbrev pub links-loaded : Session
+links-loaded = import 16 21 (page-left 1 0 ∷ page-left 2 0 ∷ page-left 3 2 ∷ page-left 4 3 ∷ [])
+
+abbrev pub links-three-levels : Session
+links-three-levels = import 19 141 (page-left 1 0 ∷ page-left 2 0 ∷ page-left 3 0 ∷ page-left 4 0 ∷ page-left 5 4 ∷ page-left 14 13 ∷ page-left 18 17 ∷ [])
+
+-- "write-out stores it as zero": the working page has its link, the stored one has none, and is else the same.
+abbrev pub links-stored : Session
+links-stored =
+    of-size 32 512 (loads 24 ∷ ask begin ∷ ask (insert 1 215 1) ∷ ask (write-out 4) ∷ []) (done ∷ answers 1 ∷ done ∷ done ∷ [])
+    (page-bytes-from 4 0 (65 ∷ 64 ∷ 0 ∷ 12 ∷ []) ∷ stored-bytes-from 4 0 (65 ∷ 64 ∷ 0 ∷ 0 ∷ 255 ∷ 255 ∷ 255 ∷ 255 ∷ 0 ∷ 0 ∷ 0 ∷ 2 ∷ []) ∷ [])
+
 -- "write-out stores it as zero, and restart works it out after redo": no 3, and the links are there again.
 abbrev pub links-restarted : Session
 links-restarted =
@@ -55,10 +80,22 @@ links-restarted =
     (done ∷ answers 1 ∷ done ∷ done ∷ done ∷ done ∷ (0 ∷ 0 ∷ 0 ∷ []) ∷ answers 4 ∷ (0 ∷ 200 ∷ 20 ∷ []) ∷ []) (page-left 3 2 ∷ page-left 4 3 ∷ [])
 
 -- "Soundness now includes that left and right links agree": a leaf's that is not the leaf to its left, none or another, and the first one's that is any.
+abbrev pub links : (page left : ℕ) → Step
+links p l = forge-low-bits p (4 * l)
+
 abbrev pub links-forged : Session
 links-forged =
-    of-size 32 512 (loads 24 ∷ forge-left 4 0 ∷ ask begin ∷ forge-left 4 2 ∷ ask begin ∷ forge-left 4 3 ∷ forge-left 2 4 ∷ ask begin ∷ forge-left 2 0 ∷ ask begin ∷ [])
-    (done ∷ refused 11 ∷ refused 11 ∷ refused 11 ∷ answers 1 ∷ []) []
+    of-size 32 512 (loads 24 ∷ links 4 0 ∷ ask begin ∷ links 4 2 ∷ ask begin ∷ links 4 1023 ∷ ask begin ∷ links 4 3 ∷ links 2 4 ∷ ask begin ∷ links 2 0 ∷ links 3 0 ∷ ask begin ∷ links 3 2 ∷ ask begin ∷ [])
+    (done ∷ refused 11 ∷ refused 11 ∷ refused 11 ∷ refused 11 ∷ refused 11 ∷ answers 1 ∷ []) []
+
+-- "Leaves get a left link": in the root, an index page, in the map and in a free page these bits are spare. So are the two bits after a leaf's link.
+abbrev pub links-spare : Session
+links-spare =
+    of-size 32 512
+    (loads 24 ∷ links 1 2 ∷ ask begin ∷ links 1 0 ∷ links 0 2 ∷ ask begin ∷ links 0 0 ∷ links 5 2 ∷ ask begin ∷ links 5 0 ∷ forge-low-bits 4 13 ∷ ask begin ∷ forge-low-bits 4 14 ∷ ask begin ∷ links 4 3 ∷ ask begin ∷ [])
+    (done ∷ refused 11 ∷ refused 11 ∷ refused 11 ∷ refused 11 ∷ refused 11 ∷ answers 1 ∷ []) []
 
 abbrev pub backwards : List Session
-backwards = stepping ∷ held-below ∷ links-split ∷ links-root ∷ links-raised ∷ links-merged ∷ links-restarted ∷ links-forged ∷ []
+backwards =
+    stepping ∷ held-below ∷ links-split ∷ links-root ∷ links-raised ∷ links-merged ∷ links-lowered ∷ links-taken-back (abort 1) ∷ links-taken-back (return-to 1 1)
+    ∷ links-loaded ∷ links-three-levels ∷ links-stored ∷ links-restarted ∷ links-forged ∷ links-spare ∷ []

@@ -4,7 +4,7 @@ use mathlib.Core.Bool.{true}
 use Rattle.def_base.specs.Tests.{every, and-both}
 use Rattle.def_sessions.specs.Play.{comes-true}
 use Rattle.def_sessions.specs.Compute.{computed}
-use Rattle.def_sessions.specs.Damage.{damage, no-page, own-number, second-map, index-level, leaf-count, index-child, free-link, spare-bit, slot-number, slot-row, slot-chain, after-mark, after-commit, end-pending, undo-older, slot-page, ninth-open, after-empty, page-ahead, insert-there, delete-absent, delete-other, undo-absent, undo-there, split-link, page-taken, no-tree, pending-value, pending-batches, pending-twice, pending-deleted}
+use Rattle.def_sessions.specs.Damage.{damage, no-page, own-number, second-map, index-level, leaf-count, index-child, free-link, stored-left, spare-bit, slot-number, slot-row, slot-chain, after-mark, after-commit, end-pending, undo-older, slot-page, ninth-open, after-empty, page-ahead, insert-there, delete-absent, delete-other, undo-absent, undo-there, split-link, page-taken, no-tree, pending-value, pending-batches, pending-twice, pending-deleted}
 
 no-page-holds : every comes-true no-page ≡ true
 unfolding computed
@@ -33,6 +33,10 @@ index-child-holds = refl
 free-link-holds : every comes-true free-link ≡ true
 unfolding computed
 free-link-holds = refl
+
+stored-left-holds : every comes-true stored-left ≡ true
+unfolding computed
+stored-left-holds = refl
 
 spare-bit-holds : every comes-true spare-bit ≡ true
 unfolding computed
@@ -134,9 +138,9 @@ pub damage-holds : every (every comes-true) damage ≡ true
 unfolding every
 damage-holds =
     and-both no-page-holds (and-both own-number-holds (and-both second-map-holds (and-both index-level-holds (and-both leaf-count-holds
-    (and-both index-child-holds (and-both free-link-holds (and-both spare-bit-holds (and-both slot-number-holds (and-both slot-row-holds
+    (and-both index-child-holds (and-both free-link-holds (and-both stored-left-holds (and-both spare-bit-holds (and-both slot-number-holds (and-both slot-row-holds
     (and-both slot-chain-holds (and-both after-mark-holds (and-both after-commit-holds (and-both end-pending-holds (and-both
     undo-older-holds (and-both slot-page-holds (and-both ninth-open-holds (and-both after-empty-holds (and-both page-ahead-holds (and-both
     insert-there-holds (and-both delete-absent-holds (and-both delete-other-holds (and-both undo-absent-holds (and-both undo-there-holds
     (and-both split-link-holds (and-both page-taken-holds (and-both no-tree-holds (and-both pending-value-holds (and-both
-    pending-batches-holds (and-both pending-twice-holds (and-both pending-deleted-holds refl))))))))))))))))))))))))))))))
+    pending-batches-holds (and-both pending-twice-holds (and-both pending-deleted-holds refl)))))))))))))))))))))))))))))))

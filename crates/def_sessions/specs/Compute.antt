@@ -2,9 +2,9 @@
 use mathlib.Core.Bool.{Bool}
 use Rattle.def_base.specs.Tests.{every, any}
 use Rattle.def_layout.specs.Entries.{seek, look, insert-sorted, remove-key, same-entries, ten-bits}
-use Rattle.def_layout.specs.Numbers.{be32, put32, tab, chunks, entry-bytes, entries-bytes, same-bytes}
-use Rattle.def_layout.specs.Pages.{page-kind-number, kind-is, own-ok, never-used, layout-by, layout}
-use Rattle.def_layout.specs.PageBytes.{with-left, page-front, bits, marks-word, marks-bytes, page-body, page-bytes}
+use Rattle.def_layout.specs.Numbers.{be32, put32, tab, chunks, read-entry, entry-bytes, entries-bytes, same-bytes}
+use Rattle.def_layout.specs.Pages.{page-kind, page-kind-number, kind-is, own-ok, never-used, layout-by, layout}
+use Rattle.def_layout.specs.PageBytes.{left-by, left-in, without-left, with-left, block-bytes, page-front, bits, marks-word, marks-bytes, page-body, page-bytes, read-entries, read-mark, read-marks, page-fields, block-by, read-block}
 use Rattle.def_layout.specs.Records.{kind-number}
 use Rattle.def_layout.specs.Rows.{carries, named-only, one-side, row-says, row, names-pages}
 use Rattle.def_layout.specs.RecordBytes.{record-bytes}
@@ -27,11 +27,11 @@ use Rattle.def_model.specs.Calls.{run-of, run-side, start-side, kept-run, store
 use Rattle.def_model.specs.Undo.{undo-by, undo-line, undo-above, return-run, end-batch, abort-run, mark-by, mark-all, end-by, end-idle, newer, newest-due, with-lines, after-line, undo-newest, without-newest, undo-step, undo-all}
 use Rattle.def_model.specs.Restart.{redone-pages, redone, settle, restarted, restart-checks, restart-by, restart-areas}
 use Rattle.def_model.specs.OnBytes.{outcome}
-use Rattle.def_sessions.specs.Play.{numbers, ended, cut-off, forged, mislinked, play-step, play, new, seen, same-answers, shows, comes-true, Session}
+use Rattle.def_sessions.specs.Play.{numbers, ended, cut-off, forged, with-work, low-bits, play-step, play, new, seen, same-answers, shows, comes-true, Session}
 
 unfoldable pub computed : Session → Bool
 unfolding every any seek look insert-sorted remove-key same-entries ten-bits be32 put32 tab chunks entry-bytes entries-bytes same-bytes page-kind-number kind-is
-    own-ok never-used layout-by layout page-front bits marks-word marks-bytes page-body page-bytes with-left kind-number carries named-only one-side row-says row
+    own-ok never-used layout-by layout page-front bits marks-word marks-bytes page-body page-bytes left-by left-in without-left with-left block-bytes read-entry page-kind read-entries read-mark read-marks page-fields block-by read-block kind-number carries named-only one-side row-says row
     names-pages record-bytes eight-rows same-row same-rows same-desk link-in unlink-in entries-in cut-to-size role share-in-a share-in-b change-a change-b change-c
     change found found-value after nowhere in-order link-fits side-by-side share-fits-a share-fits-b fits-a fits-b fits-map fits-role when-named places redo-at redo-page
     redo-left redo-lefts redo-places redo-record replay count-places redo-count fits-places redo-fits flat node-of chain first-child collect bottom leaves leaf-records rising
@@ -47,6 +47,6 @@ unfolding every any seek look insert-sorted remove-key same-entries ten-bits be3
     fetch-checks value-or fetch-by fetch-slide next-limit next-checks next-answer next-slide-by next-slide previous-limit previous-checks previous-slide-by previous-slide last-of insert-checks insert-by insert-slide
     delete-checks delete-by delete-slide commit-checks commit-by commit-batch aborted abort-checks abort-by abort-batch mark-checks latest-by mark-batch returned return-checks return-by return-batch write-out-checks write-out-by
     write-out-page undo-by undo-line undo-above return-run end-batch abort-run mark-by mark-all end-by end-idle newer newest-due with-lines after-line undo-newest
-    without-newest undo-step undo-all redone-pages redone settle restarted restart-checks restart-by restart-areas outcome numbers ended cut-off forged mislinked play-step
+    without-newest undo-step undo-all redone-pages redone settle restarted restart-checks restart-by restart-areas outcome numbers ended cut-off forged with-work low-bits play-step
     play new seen same-answers shows comes-true
 computed s = comes-true s

@@ -6,7 +6,7 @@ use lib.ListN.{replicate}
 use Rattle.def_layout.specs.declared.Entry.{Entry}
 use Rattle.def_layout.specs.Entries.{entry, top}
 use Rattle.def_layout.specs.Pages.{PageKind, free, index, storage-map, Page, node-at, freed, map-page}
-use Rattle.def_layout.specs.PageBytes.{page, other}
+use Rattle.def_layout.specs.PageBytes.{page, other, page-bytes, read-block, with-left}
 use Rattle.def_layout.specs.Records.{Rec, Kind, begin, insert, delete, undo-insert, undo-delete, commit, abort-mark, end, batch-row, data-row, split-row}
 use Rattle.def_layout.specs.RecordBytes.{full}
 use Rattle.def_model.specs.Change.{with-lsn, with-chain}
@@ -80,6 +80,13 @@ free-to right = stands 2 (with-chain right 0 [] (freed 2))
 
 abbrev pub free-link : List Session
 free-link = beside (free-to 3 ∷ []) 3 (free-to 0 ∷ []) 0 0
+
+-- 02, U5: a left link "in working pages only". A leaf's bytes, with a link and without.
+abbrev pub leaf-linked : ℕ → Step
+leaf-linked left = forge-page 2 (read-block (with-left left (page-bytes (node-at 2 0 0 5 (entry 5 5 ∷ [])))))
+
+abbrev pub stored-left : List Session
+stored-left = beside (leaf-linked 1 ∷ []) 3 (leaf-linked 0 ∷ []) 0 0
 
 -- Bits of pages that are not there are spare. The map: pages 0 and 1 are used, so many others not, and perhaps the one after them.
 abbrev pub map-then : ℕ → Bool → Step
@@ -229,7 +236,7 @@ pending-deleted = beside (then-deleted 7) 6 (then-deleted 6) 1 0
 
 abbrev pub damage : List (List Session)
 damage =
-    no-page ∷ own-number ∷ second-map ∷ index-level ∷ leaf-count ∷ index-child ∷ free-link ∷ spare-bit
+    no-page ∷ own-number ∷ second-map ∷ index-level ∷ leaf-count ∷ index-child ∷ free-link ∷ stored-left ∷ spare-bit
     ∷ slot-number ∷ slot-row ∷ slot-chain ∷ after-mark ∷ after-commit ∷ end-pending ∷ undo-older ∷ slot-page ∷ ninth-open ∷ after-empty ∷ page-ahead
     ∷ insert-there ∷ delete-absent ∷ delete-other ∷ undo-absent ∷ undo-there ∷ split-link ∷ page-taken
     ∷ no-tree ∷ pending-value ∷ pending-batches ∷ pending-twice ∷ pending-deleted ∷ []

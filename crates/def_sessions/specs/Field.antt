@@ -4,7 +4,7 @@ use mathlib.Core.List.{List, [], _∷_}
 use Rattle.def_layout.specs.Records
 use Rattle.def_layout.specs.Records.{insert, undo-delete, commit, abort-mark, batch-row, data-row}
 use Rattle.def_model.specs.OnBytes
-use Rattle.def_model.specs.OnBytes.{restart, begin, fetch, next, delete, abort}
+use Rattle.def_model.specs.OnBytes.{restart, begin, fetch, next, previous, delete, abort}
 use Rattle.def_sessions.specs.Play.{Session, ask}
 use Rattle.def_sessions.specs.Table.{answers, refused, of-size, done}
 use Rattle.def_sessions.specs.Damage.{begins, logs}
@@ -26,5 +26,13 @@ zero-restored =
     ∷ logs 7 (data-row undo-delete 4 0 1 0 6) ∷ ask restart ∷ ask begin ∷ ask (fetch 9 0) ∷ [])
     ((0 ∷ 1 ∷ 3 ∷ []) ∷ answers 9 ∷ answers 6 ∷ []) []
 
+-- 02, U5: previous finds such an entry. Nothing is below 0: whoever holds key 0, that is 16.
+abbrev pub zero-below : Session
+zero-below =
+    of-size 16 128
+    (begins 1 ∷ logs 2 (data-row insert 1 1 1 0 6) ∷ logs 3 (batch-row commit 1 2) ∷ ask restart ∷ ask begin ∷ ask begin ∷ ask (previous 4 1) ∷ ask (previous 4 0)
+    ∷ ask (delete 4 0) ∷ ask (previous 5 1) ∷ ask (previous 5 0) ∷ ask (previous 4 1) ∷ [])
+    ((0 ∷ 0 ∷ 1 ∷ []) ∷ answers 4 ∷ answers 5 ∷ (0 ∷ 0 ∷ 6 ∷ []) ∷ refused 16 ∷ done ∷ refused 14 ∷ refused 16 ∷ refused 16 ∷ []) []
+
 abbrev pub field : List Session
-field = zero-filed ∷ zero-restored ∷ []
+field = zero-filed ∷ zero-restored ∷ zero-below ∷ []

@@ -12,7 +12,7 @@ use Rattle.def_model.specs.Answers.{answer-numbers}
 use Rattle.def_model.specs.OnBytes.{Lent, read-areas}
 use Rattle.def_recovery.specs.Events
 use Rattle.def_recovery.specs.Events.{Rubble, Event, World, result, happen, happen-all, is-restart, formatted}
-use Rattle.def_sessions.specs.Play.{Step, ask, cut, forge-page, forge-slot, forge-left, Machine, numbers, Session, shows}
+use Rattle.def_sessions.specs.Play.{Step, ask, cut, forge-page, forge-slot, forge-low-bits, Machine, numbers, Session, shows}
 
 -- What is lent: areas of these lengths.
 pub record LentFor (pages slots : ℕ) (l : Lent) : Type 0 where
@@ -30,7 +30,7 @@ restart-next (ask c ∷ ss) = is-restart c
 restart-next (cut j c ∷ ss) = is-restart c
 restart-next (forge-page p x ∷ ss) = false
 restart-next (forge-slot n x ∷ ss) = false
-restart-next (forge-left p l ∷ ss) = false
+restart-next (forge-low-bits p w ∷ ss) = false
 
 -- What a cut leaves: working areas of the same lengths. Before a restart their bytes and the desk are any; before another call, zeros and empty.
 pub record Leaves (pages slots : ℕ) (restarts : Bool) (left : Rubble) : Type 0 where
@@ -46,7 +46,7 @@ AllLeave pages slots (ask c ∷ ss) left = AllLeave pages slots ss left
 AllLeave pages slots (cut j c ∷ ss) left = Leaves pages slots (restart-next ss) (left (length ss)) × AllLeave pages slots ss left
 AllLeave pages slots (forge-page p x ∷ ss) left = AllLeave pages slots ss left
 AllLeave pages slots (forge-slot n x ∷ ss) left = AllLeave pages slots ss left
-AllLeave pages slots (forge-left p l ∷ ss) left = AllLeave pages slots ss left
+AllLeave pages slots (forge-low-bits p w ∷ ss) left = AllLeave pages slots ss left
 
 -- ---- the session
 
@@ -57,7 +57,7 @@ events left (ask c ∷ ss) = Events.ended c ∷ events left ss
 events left (cut j c ∷ ss) = Events.cut c j (left (length ss)) ∷ events left ss
 events left (forge-page p x ∷ ss) = events left ss
 events left (forge-slot n x ∷ ss) = events left ss
-events left (forge-left p l ∷ ss) = events left ss
+events left (forge-low-bits p w ∷ ss) = events left ss
 
 -- The answers of the calls that ended.
 unfoldable pub answered : Event → World → List (List ℕ)

@@ -3,8 +3,8 @@ use Prim.Native.Nat.{ℕ, _+_}
 use mathlib.Core.List.{List, [], _∷_, _++_, map}
 use lib.ListN.{replicate}
 use Rattle.def_layout.specs.Entries.{entry, top}
-use Rattle.def_model.specs.OnBytes.{begin, restart, fetch, next, insert, delete, commit, abort, write-out, take-mark, return-to}
-use Rattle.def_sessions.specs.Play.{Session, Step, ask, cut, See, page-keys, page-entries, page-right, page-kind-is, page-count, page-bytes-from, kinds-from, previous-from, slides}
+use Rattle.def_model.specs.OnBytes.{begin, restart, fetch, next, previous, insert, delete, commit, abort, write-out, take-mark, return-to}
+use Rattle.def_sessions.specs.Play.{Session, Step, ask, cut, See, page-keys, page-entries, page-right, page-left, page-kind-is, page-count, page-bytes-from, kinds-from, previous-from, slides}
 
 -- ---- answers: 0 or the refusal, and two values
 
@@ -272,13 +272,23 @@ begin-short =
     of-size 256 67 (ask begin ∷ ask (insert 1 5 6) ∷ first-pairs ++ ask begin ∷ ask (abort 29) ∷ ask begin ∷ ask (fetch 1 5) ∷ [])
     (answers 1 ∷ done ∷ begun-pairs ++ answers 29 ∷ done ∷ refused 17 ∷ answers 6 ∷ []) []
 
+-- 02, U5: previous in a leaf, from its first slide to the leaf to the left, below all and above all; and its rule on held keys.
+abbrev pub steps-back : Session
+steps-back =
+    usual
+    (to-150 ++ ask (previous 1 0) ∷ ask (previous 1 10) ∷ ask (previous 1 11) ∷ ask (previous 1 80) ∷ ask (previous 1 81) ∷ ask (previous 1 top) ∷ ask (commit 1)
+    ∷ ask begin ∷ ask begin ∷ ask (delete 19 80) ∷ ask (previous 20 80) ∷ ask (previous 20 90) ∷ ask (previous 20 91) ∷ ask (previous 19 90) ∷ ask (previous 18 90) ∷ [])
+    (answers 1 ∷ replicate 15 done ++ refused 16 ∷ refused 16 ∷ (0 ∷ 10 ∷ 10 ∷ []) ∷ (0 ∷ 70 ∷ 70 ∷ []) ∷ (0 ∷ 80 ∷ 80 ∷ []) ∷ (0 ∷ 150 ∷ 150 ∷ []) ∷ done
+    ∷ answers 19 ∷ answers 20 ∷ done ∷ (0 ∷ 70 ∷ 70 ∷ []) ∷ refused 14 ∷ (0 ∷ 90 ∷ 90 ∷ []) ∷ (0 ∷ 70 ∷ 70 ∷ []) ∷ refused 12 ∷ [])
+    (page-left 1 0 ∷ page-left 254 0 ∷ page-left 255 254 ∷ [])
+
 -- ---- the table
 
 abbrev pub rows : List Session
 rows =
     a-split ∷ a-raise ∷ a-merge ∷ a-held-key ∷ a-ninth ∷ enough-slots ∷ too-few-slots ∷ too-few-pages ∷ a-cut
     ∷ a-lower ∷ shared-left ∷ shared-right ∷ an-abort ∷ a-redo ∷ unstored-commit ∷ stored-commit ∷ console
-    ∷ next-held ∷ next-held-between ∷ each-refusal ∷ zero-key ∷ three-trays ∷ marks ∷ split-stays ∷ partly-back ∷ two-open ∷ three-open ∷ redo-of-changes ∷ two-inserts 256 100 done ∷ two-inserts 256 99 (refused 17) ∷ two-inserts 23 1024 done
+    ∷ next-held ∷ next-held-between ∷ steps-back ∷ each-refusal ∷ zero-key ∷ three-trays ∷ marks ∷ split-stays ∷ partly-back ∷ two-open ∷ three-open ∷ redo-of-changes ∷ two-inserts 256 100 done ∷ two-inserts 256 99 (refused 17) ∷ two-inserts 23 1024 done
     ∷ two-inserts 22 1024 (refused 18) ∷ begin-fits ∷ begin-short ∷ []
 
 abbrev pub table : ℕ → List Session

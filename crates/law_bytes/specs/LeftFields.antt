@@ -76,6 +76,15 @@ module _ (b c : List ℕ) (h : Alike b c) where
       let ms = alike-marks (page-kind (be32 b 0 / 1073741824)) ∙ ap (λ q. read-marks q c) k in
       λ i. record { kind = k i; level = alike-level i; right = alike-right i; high = alike-high i; lsn = alike-lsn i; own = alike-own i / 4194304; entries = es i; marks = ms i }
 
+-- The first word without it.
+pub without-word : (b : List ℕ) → be32 (without-left b) 0 ≡ be32 b 0 - 4 * left-in b
+unfolding without-left
+without-word b = go (left-in b) refl
+  where
+    go : (l : ℕ) → left-in b ≡ l → be32 (pick (eqb l 0) b (put32 (be32 b 0 - 4 * l) ++ drop 4 b)) 0 ≡ be32 b 0 - 4 * l
+    go zero e = omega arith
+    go (suc l) e = let w = left-word b (omega arith) in rw (eqb·suc-zero l) (be32-put (be32 b 0 - 4 * suc l) (drop 4 b) (omega arith))
+
 -- With the left link and without it.
 pub without-alike : (b : List ℕ) → Alike b (without-left b)
 unfolding without-left

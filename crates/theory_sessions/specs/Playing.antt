@@ -16,7 +16,7 @@ use Rattle.def_model.specs.Answers.{answer-numbers}
 use Rattle.def_model.specs.OnBytes.{Call, restart, outcome, read-areas}
 use Rattle.def_recovery.specs.Events
 use Rattle.def_recovery.specs.Events.{World, Rubble, Granted, Allowed, AllAllowed, happen, happen-all, is-format, is-restart, of-32-bits, end-call, cut-call}
-use Rattle.def_sessions.specs.Play.{Step, ask, cut, forge-page, forge-slot, forge-left, Machine, numbers, ended, cut-off, play-step, play}
+use Rattle.def_sessions.specs.Play.{Step, ask, cut, forge-page, forge-slot, forge-low-bits, Machine, numbers, ended, cut-off, play-step, play}
 use Rattle.def_sessions.specs.OnBytes.{restart-next, Leaves, AllLeave, events, answered, all-answered}
 use Rattle.law_areas.specs.Lengths.{Lengths}
 use Rattle.theory_recovery.specs.Invariant.{Inv}
@@ -33,7 +33,7 @@ step-askable (ask c) = askable c
 step-askable (cut j c) = askable c
 step-askable (forge-page p x) = false
 step-askable (forge-slot n x) = false
-step-askable (forge-left p l) = false
+step-askable (forge-low-bits p w) = false
 
 -- Before these steps: all is shown; or there was a cut, and the next step is a restart.
 pub data Ready (n m : ℕ) (restarts : Bool) (w : World) (a : Areas) (d : Desk) : Type 0 where
@@ -138,4 +138,4 @@ module _ (n m : ℕ) (left : ℕ → Rubble) where
       record { allowed = (f .granted, t .allowed); tied = t .tied; answers = t .answers }
   plays (forge-page p y ∷ ss) w x k h r = clash (sym k)
   plays (forge-slot q y ∷ ss) w x k h r = clash (sym k)
-  plays (forge-left q y ∷ ss) w x k h r = clash (sym k)
+  plays (forge-low-bits q y ∷ ss) w x k h r = clash (sym k)

@@ -31,10 +31,10 @@ use Rattle.theory_sessions.specs.Starting.{formatted-tied}
 use Rattle.theory_sessions.specs.Playing.{Played, askable, step-askable, whole, plays}
 use Rattle.theory_sessions.specs.Growing.{areas-grown, world-grown, grown-tied}
 
--- Case 1 is committed. Case 4 is open at a cut, its slide written out with its page; the restart is cut after each of its first two stores.
+-- Case 1 looks for the slide before another, and is committed. Case 4 is open at a cut, its slide written out with its page; the restart is cut after each of its first two stores.
 pub first-steps : List Step
 first-steps =
-    ask begin ∷ ask (insert 1 5 6) ∷ ask (commit 1) ∷ ask begin ∷ ask (insert 4 7 7) ∷ ask (write-out 1)
+    ask begin ∷ ask (insert 1 5 6) ∷ ask (previous 1 6) ∷ ask (commit 1) ∷ ask begin ∷ ask (insert 4 7 7) ∷ ask (write-out 1)
     ∷ cut 0 begin ∷ cut 1 restart ∷ cut 1 restart ∷ ask restart ∷ []
 
 -- The areas have grown. Case 9 is committed; the commit of case 12 is cut with its record stored; that of case 15 is cut before it.

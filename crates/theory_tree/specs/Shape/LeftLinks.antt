@@ -1,7 +1,7 @@
 -- LEFT LINKS WORKED OUT along the leaves (02, U5): they agree with the right ones, and they follow from the pages wherever every leaf is reached.
 use Prim.Native.Nat.{ℕ, zero, suc, _<_}
 use mathlib.Core.Path.{_≡_, refl, sym, ap, _∙_, subst}
-use mathlib.Core.Logic.{_≢_}
+use mathlib.Core.Logic.{_≢_, _↔_}
 use mathlib.Core.Bool.{Bool, true, false, _&&_}
 use mathlib.Core.List.{List, [], _∷_, _++_}
 use native.Mathlib.Omega.{arith}
@@ -13,11 +13,39 @@ use Rattle.def_base.specs.Tests.{pick, Case, yes!, no!, case, and-true, and-bot
 use Rattle.def_layout.specs.Entries.{top}
 use Rattle.def_layout.specs.Pages.{Page, at, leaf, kind-is}
 use Rattle.def_model.specs.TreeRules.{Node, levels-of, bottom}
-use Rattle.def_model.specs.Links.{linked, lefts-ok, relink, of-leaves, relinked}
+use Rattle.def_model.specs.Links.{left-at, linked, lefts-ok, relink, of-leaves, relinked}
 use Rattle.theory_tree.specs.Shape.Levels.{ChainOk}
 use Rattle.theory_tree.specs.Shape.Chains.{Chained, All, once-in-level}
 use Rattle.theory_tree.specs.Shape.Trees.{is-bottom, Levels}
 use Rattle.theory_tree.specs.Shape.Rules.{Rooted, Rules}
+
+-- ---- what agreeing means
+
+-- The page before a node: the last of those before it.
+unfoldable pub last-page : (before : ℕ) → List Node → ℕ
+last-page b [] = b
+last-page b (n ∷ ns) = last-page (n .page) ns
+
+pub linked-at : (b : ℕ) (xs : List Node) (n : Node) (ys : List Node) (lefts : List ℕ) → linked b (xs ++ n ∷ ys) lefts ≡ true → left-at lefts (n .page) ≡ last-page b xs
+unfolding linked last-page
+linked-at b [] n ys lefts e = true-eq (left-at lefts (n .page)) b (and-true (eqb (left-at lefts (n .page)) b) (linked (n .page) ys lefts) e .0)
+linked-at b (x ∷ xs) n ys lefts e = linked-at (x .page) xs n ys lefts (and-true (eqb (left-at lefts (x .page)) b) (linked (x .page) (xs ++ n ∷ ys) lefts) e .1)
+
+-- Each node's link is the page before it.
+abbrev pub EachBefore : (before : ℕ) → List Node → List ℕ → Type 0
+EachBefore b ns lefts = (xs : List Node) (n : Node) (ys : List Node) → ns ≡ xs ++ n ∷ ys → left-at lefts (n .page) ≡ last-page b xs
+
+linked-each : (b : ℕ) (ns : List Node) (lefts : List ℕ) → EachBefore b ns lefts → linked b ns lefts ≡ true
+unfolding linked last-page
+linked-each b [] lefts h = refl
+linked-each b (n ∷ ns) lefts h =
+    and-both (eq-true (left-at lefts (n .page)) b (h [] n ns refl)) (linked-each (n .page) ns lefts (λ xs m ys e. h (n ∷ xs) m ys (ap (n ∷_) e)))
+
+-- 02, U5: "left and right links agree" exactly where each leaf of the chain has the leaf before it, and the first has none.
+pub lefts-ok-means : (pages : List Page) (lefts : List ℕ) → (lefts-ok pages lefts ≡ true) ↔ EachBefore 0 (bottom (levels-of pages)) lefts
+unfolding lefts-ok
+lefts-ok-means pages lefts =
+    ((λ o xs n ys e. linked-at 0 xs n ys lefts (subst (λ ns. linked 0 ns lefts ≡ true) e o)), linked-each 0 (bottom (levels-of pages)) lefts)
 
 -- ---- lengths
 

@@ -22,6 +22,7 @@ use Rattle.theory_tree.specs.Shape.Chains.{All}
 use Rattle.theory_tree.specs.Shape.Trees.{Levels, all-cut, page-at}
 use Rattle.theory_tree.specs.Shape.Sizes.{Sized, SizedLevel, sizes-at}
 use Rattle.theory_tree.specs.Shape.Rules.{Rules}
+use Rattle.theory_tree.specs.Shape.LeftLinks.{last-page, linked-at}
 use Rattle.theory_tree.specs.Test.Test.{rules-levels}
 use Rattle.theory_update.specs.Find.Leaf.{LeafFor, leaf-for-key}
 
@@ -66,15 +67,6 @@ last-append (e ∷ es) [] h = absurd (omega arith)
 last-append (e ∷ es) (f ∷ fs) h = ap (λ o. some (or-this o e)) (last-append es (f ∷ fs) h)
 
 -- ---- the leaf to the left
-
-last-page : ℕ → List Node → ℕ
-last-page b [] = b
-last-page b (n ∷ ns) = last-page (n .page) ns
-
-linked-at : (b : ℕ) (xs : List Node) (n : Node) (ys : List Node) (lefts : List ℕ) → linked b (xs ++ n ∷ ys) lefts ≡ true → getD lefts (n .page) 0 ≡ last-page b xs
-unfolding linked last-page
-linked-at b [] n ys lefts e = true-eq (getD lefts (n .page) 0) b (and-true (eqb (getD lefts (n .page) 0) b) (linked (n .page) ys lefts) e .0)
-linked-at b (x ∷ xs) n ys lefts e = linked-at (x .page) xs n ys lefts (and-true (eqb (getD lefts (x .page) 0) b) (linked (x .page) (xs ++ n ∷ ys) lefts) e .1)
 
 last-page-is : (b : ℕ) (ws : List Node) (m : Node) → last-page b (ws ++ m ∷ []) ≡ m .page
 unfolding last-page
