@@ -5,8 +5,8 @@ use super::written::{begin, commit, delete, insert, register, stored_up_to};
 use crate::beside::Beside;
 use crate::damage::Tried;
 use crate::difference::Difference;
-use reference::calls::{sound, take_back, undo_above, write_update, Call, Outcome};
-use reference::layout::{Areas, Desk, Entry, Kind, Page, Pages, Record};
+use reference::calls::{sound, take_back, undo_above, Call, Outcome};
+use reference::layout::{Areas, Desk, Kind, Page, Pages, Record};
 use reference::log::Work;
 use reference::sizes::TOP;
 
