@@ -51,7 +51,7 @@ pub fn bits_of_the_desk() -> Tried {
 }
 
 /// Turn one bit, counted from the most significant one of the first byte; make the call; turn it back.
-fn try_bit(
+pub fn try_bit(
     beside: &mut Beside,
     areas: &mut Areas,
     desk: &Desk,
@@ -67,7 +67,8 @@ fn try_bit(
     tried.map(drop).map_err(|difference| difference.at(what()))
 }
 
-/// The calls that ask for sound areas, with numbers for which the roomy register, undamaged, does them.
+/// The calls that ask for sound areas, with numbers for which the register, undamaged, does them: slides 70 and 80 are filed, 75
+/// is not, and there is room for one update more.
 pub fn sound_calls(busy: &Busy) -> [Call; 11] {
     let (batch, other) = (busy.first, busy.second);
     let calls = [

@@ -14,7 +14,8 @@ mod redone;
 mod unsorted;
 
 pub use anything::{anything, forged_images, shortage};
-pub use bits::{bits_for_other_calls, bits_of_the_desk, bits_of_the_image};
+pub use bits::{bits_for_other_calls, bits_of_the_desk, bits_of_the_image, sound_calls, try_bit};
+pub use busy::Busy;
 pub use careless::careless_registers;
 pub use changes::{bits_around_changes, forged_around_changes};
 pub use lengths::{lengths_of_areas, lengths_of_desk_and_values};
