@@ -9,6 +9,10 @@ enum { WORK_PAGES, STABLE_PAGES, WORK_LOG, STABLE_LOG, DESK, VALUES, PARTS };
 enum { DESK_BYTES = 136, ROW_BYTES = 16, ROWS = 8, WRITTEN_AT = 128, LARGE = 800 * 128, LARGEST = 896 * 128, MUCH_STACK = 120 * 1024, OFTEN = 9 };
 enum { LONGEST = 16384 * 144 };
 
+/* Kinds of pages, and of records. */
+enum { LEAF = 1, INDEX = 2 };
+enum { INSERT = 2, DELETE = 3, UNDO_INSERT = 4, UNDO_DELETE = 5, ABORT_MARK = 7, SPLIT = 9, MERGE = 12, REDISTRIBUTE = 13, RAISE = 14 };
+
 struct part {
     uint8_t *bytes;
     size_t length;
@@ -29,10 +33,13 @@ enum deed {
     ENDS,        /* aborts the batch besides */
     RESHAPES,    /* gives the loaded tree the shape `with` */
     FINDS_ASKED, /* answers the asked key, where it is there */
+    STEPS_ON,    /* answers what next answers */
+    STEPS_OVER,  /* answers what the batch that holds the keys on the way is answered */
     UNLINKS,     /* leaves no left link in the working pages */
     STORES_LINK, /* stores the page with its left link */
     STAMPS,      /* gives pages whose left link has changed a log number for it */
-    OVERLOOKS,   /* answers as if the left links were right */
+    LEAVES_LINK, /* leaves the left link of the page after those that a record of kind `with` changes as it was */
+    OVERLOOKS,   /* answers as if the bits of left links were right in pages of kind `with` */
     /* And what it does before: */
     DIGS,        /* takes much more stack */
     SHARES,      /* works on pages of its own, which all calls share */
@@ -182,6 +189,8 @@ static const struct fault faults[] = {
     {"previous-of-a-held-key-answers-16", 'V', 14, ANSWERS, 16, ALWAYS},
     {"previous-without-batch-answers-16", 'V', 12, ANSWERS, 16, ALWAYS},
     {"previous-writes-a-page-and-puts-it-back", 'V', 0, PUTS_BACK, WORK_PAGES, ALWAYS},
+    {"previous-answers-what-next-answers", 'V', 0, STEPS_ON, 0, ALWAYS},
+    {"previous-steps-over-a-held-key", 'V', 14, STEPS_OVER, 0, ALWAYS},
     {"insert-sets-no-left-link", 'I', 0, UNLINKS, 0, ALWAYS},
     {"delete-sets-no-left-link", 'D', 0, UNLINKS, 0, ALWAYS},
     {"abort-sets-no-left-link", 'A', 0, UNLINKS, 0, ALWAYS},
@@ -190,8 +199,13 @@ static const struct fault faults[] = {
     {"load-sets-no-left-link", 'O', 0, UNLINKS, 0, ALWAYS},
     {"write-out-stores-the-left-link", 'W', 0, STORES_LINK, 0, ALWAYS},
     {"left-link-changes-the-log-number", 'I', 0, STAMPS, 0, ALWAYS},
-    {"fetch-judges-no-left-link", 'F', 11, OVERLOOKS, 0, ALWAYS},
+    {"split-leaves-the-link-after-the-new-page", 'I', 0, LEAVES_LINK, SPLIT, ALWAYS},
+    {"merge-leaves-the-link-after-the-freed-page", 'D', 0, LEAVES_LINK, MERGE, ALWAYS},
+    {"raise-leaves-the-link-of-the-right-page", 'I', 0, LEAVES_LINK, RAISE, ALWAYS},
+    {"fetch-judges-no-left-link", 'F', 11, OVERLOOKS, LEAF, ALWAYS},
+    {"fetch-judges-no-link-bits-of-an-index", 'F', 11, OVERLOOKS, INDEX, ALWAYS},
     {"stable-left-link-answers-6", 'R', 3, ANSWERS, 6, .links = STABLE_LINK},
+    {"stable-left-link-answers-0", 'R', 3, ANSWERS, 0, .links = STABLE_LINK},
     {"largest-fetch-is-slow", 'F', 0, REPEATS, 0, .least_pages = LARGEST},
 };
 
@@ -247,7 +261,6 @@ static int room_is(const struct fault *f, const struct part parts[PARTS])
 }
 
 enum { PAGE_BYTES = 128, PAGE_ENTRIES = 16, RECORD_BYTES = 144, RECORD_ENTRIES = 32, ENTRY_BYTES = 8, MOST_ENTRIES = 14 };
-enum { INSERT = 2, DELETE = 3, UNDO_INSERT = 4, UNDO_DELETE = 5, ABORT_MARK = 7, MERGE = 12, REDISTRIBUTE = 13 };
 
 /* The keys of a page's or a record's entries, as far as the count says. */
 struct keys {
@@ -369,6 +382,8 @@ static int times_before(char letter, const struct part parts[PARTS])
 #define LENT_ON p[0].bytes, p[0].length, p[1].bytes, p[1].length, p[2].bytes, p[2].length, p[3].bytes, p[3].length, p[4].bytes, p[4].length
 
 uint32_t right_fetch(LENT, uint32_t batch, uint32_t key);
+uint32_t right_next(LENT, uint32_t batch, uint32_t key);
+uint32_t right_previous(LENT, uint32_t batch, uint32_t key);
 uint32_t right_abort(LENT, uint32_t batch);
 
 /* What a fetch on these parts answers, which changes none of them. */
@@ -388,6 +403,21 @@ static uint32_t found(const struct part p[PARTS], uint32_t batch, uint32_t key)
         memcpy(p[VALUES].bytes + 4, values, 4);
     }
     return 0;
+}
+
+static uint32_t stepped_on(const struct part p[PARTS], uint32_t batch, uint32_t key)
+{
+    return right_next(LENT_ON, p[VALUES].bytes, p[VALUES].length, batch, key);
+}
+
+/* What one of the open batches finds below the key, where none but that one holds a key on the way. */
+static uint32_t stepped_over(const struct part p[PARTS], uint32_t key)
+{
+    uint32_t reason = 14;
+    for (size_t row = 0; row < ROWS && reason == 14; row++)
+        if (number_at(p[DESK].bytes + row * ROW_BYTES) != 0)
+            reason = right_previous(LENT_ON, p[VALUES].bytes, p[VALUES].length, number_at(p[DESK].bytes + row * ROW_BYTES), key);
+    return reason;
 }
 
 static uint32_t ended(const struct part p[PARTS], uint32_t batch)
@@ -493,7 +523,8 @@ static int fits_before(const struct part parts[PARTS])
 static void keep(const struct part parts[PARTS])
 {
     const struct fault *f = fault();
-    if (f == NULL || (f->deed != TAKES_BACK && f->deed != STAMPS && f->writing == ANY_WRITING) || !fits_before(parts))
+    int needs = f != NULL && (f->deed == TAKES_BACK || f->deed == STAMPS || f->deed == LEAVES_LINK || f->writing != ANY_WRITING);
+    if (!needs || !fits_before(parts))
         return;
     memcpy(pages_before, parts[WORK_PAGES].bytes, parts[WORK_PAGES].length);
     memcpy(log_before, parts[WORK_LOG].bytes, parts[WORK_LOG].length);
@@ -678,7 +709,7 @@ static void reshape(uint8_t *pages, enum shape shape)
 /* A leaf's left link; other pages have none. */
 static uint32_t link_of(const uint8_t *page)
 {
-    return page[0] >> 6 == 1 ? number_at(page) >> 2 & 1023 : 0;
+    return page[0] >> 6 == LEAF ? number_at(page) >> 2 & 1023 : 0;
 }
 
 static void set_link(uint8_t *page, uint32_t link)
@@ -700,15 +731,23 @@ static void relink(uint8_t *pages, uint32_t count)
     }
 }
 
-/* What a fetch answers on pages whose left links are worked out first. */
-static uint32_t fetched_relinked(const struct part parts[PARTS], uint32_t batch, uint32_t key)
+/* Index pages have no left link: its bits are spare there. */
+static void unlink_indexes(uint8_t *pages, uint32_t count)
+{
+    for (uint32_t number = 0; number < count; number++)
+        if (page_at(pages, number)[0] >> 6 == INDEX)
+            set_link(page_at(pages, number), 0);
+}
+
+/* What a fetch answers on pages whose left links, or whose index pages' bits there, are put right first. */
+static uint32_t fetched_relinked(const struct part parts[PARTS], uint32_t batch, uint32_t key, uint32_t kind)
 {
     struct part linked[PARTS];
     if (!fits_before(parts))
         return 11;
     memcpy(linked, parts, sizeof linked);
     linked[WORK_PAGES].bytes = memcpy(pages_before, parts[WORK_PAGES].bytes, parts[WORK_PAGES].length);
-    relink(pages_before, (uint32_t)(parts[WORK_PAGES].length / PAGE_BYTES));
+    (kind == INDEX ? unlink_indexes : relink)(pages_before, (uint32_t)(parts[WORK_PAGES].length / PAGE_BYTES));
     return fetched(linked, batch, key);
 }
 
@@ -719,6 +758,20 @@ static int links_are(const struct fault *f, const struct part parts[PARTS])
         if (link_of(pages->bytes + at) != 0)
             return 1;
     return f->links == ANY_LINKS;
+}
+
+/* For each record of this kind that the call wrote: a leaf that came to stand after another one is still linked to the one before. After a
+ * split and a merge it is the one at the record's right link; a raise puts page C before B, in the place of the root. */
+static void leave_link(const struct part parts[PARTS], uint32_t kind)
+{
+    const struct part *log = &parts[WORK_LOG];
+    for (uint32_t number = number_at(desk_before + WRITTEN_AT) + 1; told_by(log, number).kind != 0; number++) {
+        const uint8_t *record = log->bytes + (number - 1) * RECORD_BYTES;
+        uint32_t named = number_at(record + 16), a = named >> 22, b = named >> 12 & 1023, right = number_at(record + 28) >> 22;
+        uint8_t *page = page_at(parts[WORK_PAGES].bytes, kind == RAISE ? b : right);
+        if (record[0] >> 4 == (int)kind && link_of(page) != 0)
+            set_link(page, kind == MERGE ? b : a);
+    }
 }
 
 /* What is wrong with the left links after the call. */
@@ -754,9 +807,17 @@ static uint32_t spoiled(char letter, uint32_t reason, const struct part parts[PA
     if (f->deed == ENDS)
         return ended(parts, numbers[1]);
     if (f->deed == OVERLOOKS)
-        return fetched_relinked(parts, numbers[1], numbers[2]);
+        return fetched_relinked(parts, numbers[1], numbers[2], f->with);
     if (f->deed == FINDS_ASKED)
         return found(parts, numbers[1], numbers[2]);
+    if (f->deed == STEPS_ON)
+        return stepped_on(parts, numbers[1], numbers[2]);
+    if (f->deed == STEPS_OVER)
+        return stepped_over(parts, numbers[2]);
+    if (f->deed == LEAVES_LINK) {
+        leave_link(parts, f->with);
+        return reason;
+    }
     if (f->deed == UNLINKS || f->deed == STORES_LINK || f->deed == STAMPS) {
         mislink(f->deed, parts, numbers[1]);
         return reason;
