@@ -79,10 +79,11 @@
  *   13  Eight batches are open. Begin. Nothing changes.
  *   14  The key is held by another open batch, which has inserted or deleted it. Fetch, insert, delete; and next, if another batch holds
  *       any key above the asked one up to the one found, or any key above it if none is found; and previous, if another batch holds any
- *       key from the one found on and below the asked one, or any key below it if none is found. Nothing changes.
+ *       key below the asked one down to the one found, or any key below it if none is found. For next and previous it does not matter who
+ *       holds the asked key itself. Nothing changes.
  *   15  The key is present. Insert. Nothing changes.
  *   16  The key is absent; or, for next, no key is above the asked one; or, for previous, none is below it. Fetch, next, previous, delete.
- *       Nothing changes.
+ *       Above key 4294967295 and below key 0 there is nothing to hold: next and previous answer 16 there, never 14. Nothing changes.
  *   17  Log slots are short. Begin, insert, delete: nothing changes.
  *       Restart: both working areas become zeros, the desk becomes empty, the stable areas stay as they were.
  *   18  Pages are short. Insert, delete: nothing changes. Restart: as 17. Load: as 8.
@@ -158,8 +159,10 @@
  *   write-out   the same, then the one page
  *   restart     at its end, the new records by rising number
  *
- * A stored page is the working page but for the left links of its leaves, which only working pages have: they are stored as zeros, and
- * restart works them out. So working pages are never copied onto stable ones by hand: restart would refuse them with 3.
+ * The working pages are not what is stored. In memory each leaf of the tree also has the number of the leaf before it, its left link. A
+ * page is stored without it, whatever stores it, and restart works the links out again. So what the host carries out comes from the stable
+ * areas, and from nowhere else. A host that copies working pages, onto the stable ones or into its copy of them, makes a register that restart
+ * refuses with 3 as soon as there are two leaves, and that is from 15 slides on: a trial with a few slides does not show it.
  *
  * A power failure may come between two stores, and the register recovers from it. The host must see to it that
  *
@@ -173,8 +176,8 @@
  *
  * The stable areas are ordinary memory, of which the host keeps a copy where it outlasts a power failure. What they show while a call
  * runs is not promised: the compiler and the processor may order and join writes to memory. So memory with a battery is not lent itself;
- * it holds the copy. It is enough to carry the changed parts out to the copy after each of the five calls, in the order above, before
- * going on. examples/host does so, in a file, and docs/DRIVE.md says how.
+ * it holds the copy. It is enough to carry the changed parts of the stable areas out to the copy after each of the five calls, in the order
+ * above, before going on. examples/host does so, in a file, and docs/DRIVE.md says how.
  *
  *
  * MEMORY AND TIME
@@ -365,7 +368,8 @@ uint32_t donzhikar_fetch(
     uint8_t *desk, size_t desk_length, uint8_t *values, size_t values_length,
     uint32_t batch, uint32_t key);
 
-/* Finds the first slide whose key is above `key`, for an open batch. First value: its key; second value: its value.
+/* Finds the first slide whose key is above `key`, for an open batch. First value: its key; second value: its value. So it never finds key 0,
+ * which is above none: fetch does.
  * Refused: 1, 11, 12, 14, 16. */
 uint32_t donzhikar_next(
     const uint8_t *work_pages, size_t work_pages_length, const uint8_t *stable_pages, size_t stable_pages_length,
@@ -373,8 +377,9 @@ uint32_t donzhikar_next(
     uint8_t *desk, size_t desk_length, uint8_t *values, size_t values_length,
     uint32_t batch, uint32_t key);
 
-/* Finds the last slide whose key is below `key`, for an open batch: next, the other way. First value: its key; second value: its value.
- * Refused: 1, 11, 12, 14, 16. */
+/* Finds the last slide whose key is below `key`, for an open batch: next, the other way. First value: its key; second value: its value. It finds
+ * a slide that an earlier version filed under key 0, and never key 4294967295, which is below none: fetch does.
+ * Refused: 1, 11, 12, 14, 16, in this order; below key 0 never 14. */
 uint32_t donzhikar_previous(
     const uint8_t *work_pages, size_t work_pages_length, const uint8_t *stable_pages, size_t stable_pages_length,
     const uint8_t *work_log, size_t work_log_length, const uint8_t *stable_log, size_t stable_log_length,
