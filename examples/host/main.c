@@ -1,11 +1,12 @@
 /* A register on a drive, worked by commands on standard input, one a line:
  *
  *   open CASE  file CASE KEY VALUE  remove CASE KEY  find CASE KEY  next CASE KEY  previous CASE KEY
- *   tray CASE  take-back CASE  commit CASE  cancel CASE  write-out PAGE  list  check
+ *   tray CASE  take-back CASE  commit CASE  cancel CASE  write-out PAGE  list  list-back  check
  *
  * Numbers are decimal and chosen by the user, those of cases too. Each command is answered by itself, a colon, 0 and any answer, or the
- * refusal's number. `list` prints a line `slide KEY VALUE` for each slide first. `check` first prints a line for each copy on the drive that
- * the start found damaged or behind, and what restart answered, in words. A line that is no command, or opens an open case, prints `?`.
+ * refusal's number. `list` prints a line `slide KEY VALUE` for each slide first, by rising key, and `list-back` by falling key. `check` first
+ * prints a line for each copy on the drive that the start found damaged or behind, and what restart answered, in words. A line that is no
+ * command, or opens an open case, prints `?`.
  * An answer is printed when everything that it tells is on the drive, so it may be relied on.
  *
  * A case opens with its tray 1. `tray` begins its next one, and answers the tray's number. `take-back` takes the last tray back, which is all
@@ -15,8 +16,9 @@
  * Usage: host FILE PAGES SLOTS. A new FILE gets so many pages and slots, and one that has fewer grows. A start writes all of it anew, as
  * FILE.new, and needs the room for that. Each copy that it so repaired is named on standard error.
  *
- * Or: host --read-only FILE. Nothing on the drive is changed, no permission to write is needed, and the restart is made in memory. `list` and
- * `check` are the only commands, and may follow where the restart is refused too. PAGES and SLOTS may be given, to lend more after 17 or 18.
+ * Or: host --read-only FILE. Nothing on the drive is changed, no permission to write is needed, and the restart is made in memory. `list`,
+ * `list-back` and `check` are the only commands, and may follow where the restart is refused too. PAGES and SLOTS may be given, to lend more
+ * after 17 or 18.
  *
  * Or: host --import TEXT FILE PAGES SLOTS. A new FILE gets so many pages and slots, and the slides in TEXT, which are two columns of numbers by
  * rising key (columns.h). The answer is `import: 0` and how many slides there are, or `import: ` and the refusal's number, and no command
@@ -159,33 +161,46 @@ static void print_slide(uint32_t key, uint32_t value)
     printf("slide %u %u\n", (unsigned)key, (unsigned)value);
 }
 
-/* All slides by rising key, seen by a batch of their own. */
-static uint32_t print_slides(struct host *h, uint32_t batch)
+typedef uint32_t (*step)(struct host *h, uint32_t batch, uint32_t key);
+
+/* All slides from one end of the keys on. A slide at that end is fetched, as no step leads to it. */
+static uint32_t print_slides(struct host *h, uint32_t batch, uint32_t end, step step)
 {
-    uint32_t reason = host_fetch(h, batch, 0);
+    uint32_t reason = host_fetch(h, batch, end);
     if (reason == DONZHIKAR_DONE)
-        print_slide(0, donzhikar_value(h->values, 0));
+        print_slide(end, donzhikar_value(h->values, 0));
     if (reason == DONZHIKAR_DONE || reason == DONZHIKAR_ERROR_ABSENT)
-        reason = host_next(h, batch, 0);
+        reason = step(h, batch, end);
     while (reason == DONZHIKAR_DONE) {
         uint32_t key = donzhikar_value(h->values, 0);
         print_slide(key, donzhikar_value(h->values, 1));
-        reason = host_next(h, batch, key);
+        reason = step(h, batch, key);
     }
     return reason == DONZHIKAR_ERROR_ABSENT ? DONZHIKAR_DONE : reason;
 }
 
-/* Where restart was refused there is nothing to list, for that reason. */
-static uint32_t list_slides(struct bench *b, const uint32_t *n)
+/* The slides are seen by a batch of their own. Where restart was refused there is nothing to list, for that reason. */
+static uint32_t list_from(struct bench *b, uint32_t end, step step)
 {
-    (void)n;
     uint32_t reason = b->host.restart == DONZHIKAR_DONE ? host_begin(&b->host) : b->host.restart;
     if (reason != DONZHIKAR_DONE)
         return reason;
     uint32_t batch = donzhikar_value(b->host.values, 0);
-    reason = print_slides(&b->host, batch);
+    reason = print_slides(&b->host, batch, end, step);
     host_abort(&b->host, batch);
     return reason;
+}
+
+static uint32_t list_slides(struct bench *b, const uint32_t *n)
+{
+    (void)n;
+    return list_from(b, 0, host_next);
+}
+
+static uint32_t list_slides_back(struct bench *b, const uint32_t *n)
+{
+    (void)n;
+    return list_from(b, UINT32_MAX, host_previous);
 }
 
 /* What the start found and did. */
@@ -212,7 +227,7 @@ static const struct command {
     { "find", 2, 1, find_slide },    { "next", 2, 2, next_slide },     { "previous", 2, 2, previous_slide },
     { "tray", 1, 1, begin_tray },    { "take-back", 1, 1, take_tray_back },
     { "commit", 1, 0, commit_case }, { "cancel", 1, 0, cancel_case },  { "write-out", 1, 0, write_out_page },
-    { "list", 0, 0, list_slides },   { "check", 0, 0, check_drive },
+    { "list", 0, 0, list_slides },   { "list-back", 0, 0, list_slides_back }, { "check", 0, 0, check_drive },
 };
 
 /* The command of a line, and its numbers, or NULL. */
@@ -241,13 +256,19 @@ static void answer(const struct bench *b, const char *line, uint32_t reason, int
     fflush(stdout);
 }
 
+/* Whether a host that only reads obeys the command. */
+static int only_looks(const struct command *command)
+{
+    return command->run == list_slides || command->run == list_slides_back || command->run == check_drive;
+}
+
 /* Why a line is not obeyed, or NULL. */
 static const char *objection(struct bench *b, const struct command *command, const uint32_t *numbers)
 {
     if (command == NULL || (command->run == open_case && batch_of(b, numbers[0]) != 0))
         return "?";
-    if (b->host.only_reads && command->run != list_slides && command->run != check_drive)
-        return "? read-only: list and check are the only commands";
+    if (b->host.only_reads && !only_looks(command))
+        return "? read-only: list, list-back and check are the only commands";
     return NULL;
 }
 

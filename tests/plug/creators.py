@@ -88,7 +88,7 @@ class Scene:
         return apart(names[:names.index('flush-name') + 4])
 
     def left(self, book, wrong):
-        return wrong or judged(book, self.register.run(['list']))
+        return wrong or judged(book, self.register.listing())
 
 
 def one_after_another(scene, stop):

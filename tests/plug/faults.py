@@ -25,8 +25,8 @@ def met(register, book, settings, random):
     run = register.run(AFTER, plug(random.choice(('end', last)), 'power', random.randrange(1 << 30)))
     wrong = run.error or (book.settle(run.slides()) if run.slides() is not None else None)
     noted(book, run, AFTER)
-    wrong = wrong or judged(book, register.run(['list'], plug('end', 'power', random.randrange(1 << 30))))
-    return wrong or judged(book, register.run(['list']))
+    wrong = wrong or judged(book, register.listing(plug('end', 'power', random.randrange(1 << 30))))
+    return wrong or judged(book, register.listing())
 
 
 def is_tried(kind, number, filled):

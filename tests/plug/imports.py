@@ -138,7 +138,7 @@ def put_there(register, other, stop):
     held.finish()
     if is_copied and held.run.lines:
         return f'it answered {held.run.lines}, and another register is there'
-    return judged(book_of(OTHER if is_copied else SLIDES), register.run(['list']))
+    return judged(book_of(OTHER if is_copied else SLIDES), register.listing())
 
 
 def beside_a_start(register, stop):
@@ -152,7 +152,7 @@ def beside_a_start(register, stop):
     gave_up = FOREIGN in held.run.error or 'is there already' in held.run.error
     if not wrong and held.run.lines != DONE and not gave_up:
         wrong = held.run.error or f'it answered {held.run.lines}'
-    return wrong or judged(book, register.run(['list']))
+    return wrong or judged(book, register.listing())
 
 
 def others(register):
@@ -166,7 +166,7 @@ def others(register):
     says = f'drive: {register.file} is there already, and stays as it was'
     yield 'the name of a register', None if (run.gave_up, run.error, run.lines) == (True, says, []) else f'it answered {run.lines}: {run.error}'
     yield 'the register that was there', None if register.state() == before else 'it is not as it was'
-    yield 'that register afterwards', second.judged(Book()) or judged(book_of(OTHER), register.run(['list']))
+    yield 'that register afterwards', second.judged(Book()) or judged(book_of(OTHER), register.listing())
     for stop in steps(register):
         yield f'another register put there at step {stop}', put_there(register, copy, stop)
         yield f'a start while the import is at step {stop}', beside_a_start(register, stop)
@@ -178,7 +178,7 @@ def texts(register):
         register.forget()
         run = register.load()
         wrong = None if run.lines == [f'import: 0 {len(slides)}'] else f'{run.lines}: {run.error}'
-        yield f'the text {text[:40]}', run.error or wrong or judged(book_of(slides), register.run(['list']))
+        yield f'the text {text[:40]}', run.error or wrong or judged(book_of(slides), register.listing())
     for text, answer, says in REFUSED:
         register.write(text)
         register.forget()

@@ -7,7 +7,7 @@ from contextlib import suppress
 from random import Random
 
 from plug.book import Book
-from plug.programs import Run
+from plug.programs import LISTS, Run
 from plug.work import Work
 
 PAGES, SLOTS, MORE = 128, 512, 128
@@ -48,14 +48,14 @@ class Life:
 
     def end(self):
         """A start that nobody disturbs. A second host on the same file must not come in."""
-        words, commands = [self.host, self.file, str(self.pages), str(self.slots + MORE)], ['list']
+        words, commands = [self.host, self.file, str(self.pages), str(self.slots + MORE)], LISTS
         with subprocess.Popen(words, stdin=subprocess.PIPE, stdout=subprocess.PIPE, stderr=subprocess.PIPE, text=True) as first:
             start = first.stdout.readline()
             second = subprocess.run(words, input='', capture_output=True, text=True)
-            output, error = first.communicate('list\n')
+            output, error = first.communicate(''.join(command + '\n' for command in commands))
         run = Run(start + output, error, first.returncode)
         wrong = self.judged(run, commands) or (f'the list was refused: {run.lines[-1]}' if run.slides() is None else None)
-        return wrong or ('a second host came in' if second.returncode != REFUSED else None)
+        return wrong or run.disordered() or ('a second host came in' if second.returncode != REFUSED else None)
 
     def judged(self, run, commands):
         answers = run.answers(commands)

@@ -4,10 +4,11 @@ import os
 import subprocess
 import zlib
 from contextlib import contextmanager
+from itertools import chain
 from random import Random
 
 from plug.book import CASE
-from plug.programs import GAVE_UP
+from plug.programs import GAVE_UP, LISTS
 from plug.trials import BLOCK, Register
 
 PAGES, SLOTS = 16, 128
@@ -19,9 +20,11 @@ EDGES = (0, 1, PAGES, FIRST_SLOT, FIRST_SLOT + SLOTS - 1)
 COPIES = ('first', 'second')
 MADE = ['open 1', f'file 1 5 {CASE}', 'commit 1', 'open 2', f'file 2 6 {2 * CASE}', 'write-out 0']  # so a restart ends a batch, redoes, and stores
 LISTED = [f'slide 5 {CASE}', 'list: 0']
+LISTED_BACK = [f'slide 5 {CASE}', 'list-back: 0']
+TOP = 2**32 - 1
 CHECKED = ['restart: 0, done; open batches taken back: 1; page changes redone: 2', 'check: 0']
 OTHERS = ('open 1', 'file 1 5 6', 'remove 1 5', 'find 1 5', 'next 1 5', 'previous 1 5', 'tray 1', 'take-back 1', 'commit 1', 'cancel 1', 'write-out 1')
-REFUSED = '? read-only: list and check are the only commands'
+REFUSED = '? read-only: list, list-back and check are the only commands'
 LOST = 'drive: a place has no whole copy: docs/SERVICE.md says how to salvage the rest'
 MAY_WRITE_ANYWHERE = 1  # CAP_DAC_OVERRIDE, which root has
 PR_CAPBSET_DROP = 24
@@ -79,6 +82,13 @@ class Scene(Register):
         """Turns a bit, or turns it back."""
         block = self.block(place, which)
         self.set_block(place, which, block[:30] + bytes([block[30] ^ 1]) + block[31:])
+
+    def change_page(self, page, byte, bits):
+        """Changes a byte of both copies of a page, which stay whole."""
+        for which in (0, 1):
+            content = bytearray(self.block(1 + page, which)[8 : 8 + CONTENT])
+            content[byte] ^= bits
+            self.set_block(1 + page, which, sealed(1 + page, content))
 
     def host_on(self, words, commands, **how):
         text = ''.join(command + '\n' for command in commands)
@@ -190,18 +200,30 @@ def ungrouped(scene):
 def refused(scene):
     """A page whose copies are whole and whose own number is not its own: restart's 3."""
     scene.put(scene.made)
-    for which in (0, 1):
-        content = bytearray(scene.block(2, which)[8 : 8 + CONTENT])
-        content[15] ^= 1
-        scene.set_block(2, which, sealed(2, content))
-    wanted = (1, ['start: 3', 'restart: 3, a stored page is damaged', 'check: 3', 'list: 3'], [])
-    yield 'a restart that is refused', unless(scene.look(['check', 'list']), wanted)
+    scene.change_page(1, 15, 1)
+    wanted = (1, ['start: 3', 'restart: 3, a stored page is damaged', 'check: 3', 'list: 3', 'list-back: 3'], [])
+    yield 'a restart that is refused', unless(scene.look(['check', *LISTS]), wanted)
+
+
+def from_either_end(scene):
+    """No slide; and slides at both ends of the keys, of which the one under 0 is an older version's: no host files it."""
+    scene.forget()
+    yield 'no slide from either end', unless(scene.start(LISTS), (0, ['start: 0 0 0', 'list: 0', 'list-back: 0'], []))
+    scene.forget()
+    cases = ((f'open {case}', f'file {case} {key} {case * CASE}', f'commit {case}') for case, key in enumerate((5, 9, TOP), 1))
+    scene.start([*chain.from_iterable(cases), 'write-out 1'])
+    scene.change_page(1, 19, 5)
+    slides = [f'slide 0 {CASE}', f'slide 9 {2 * CASE}', f'slide {TOP} {3 * CASE}']
+    wanted = (0, ['start: 0 0 0', *slides, 'list: 0', *slides[::-1], 'list-back: 0'], [])
+    yield 'slides from either end, looked at', unless(scene.look(LISTS), wanted)
+    yield 'slides from either end', unless(scene.start(LISTS), wanted)
 
 
 def commands(scene):
     scene.put(scene.made)
     for command in OTHERS:
-        yield f'{command}, read-only', unless(scene.look([command, 'list']), (0, ['start: 0 1 2', REFUSED, *LISTED], []))
+        wanted = (0, ['start: 0 1 2', REFUSED, *LISTED, *LISTED_BACK], [])
+        yield f'{command}, read-only', unless(scene.look([command, *LISTS]), wanted)
 
 
 def may_not_write():
@@ -246,5 +268,5 @@ def others(scene):
 def looking(host, folder):
     """Gives for each try what is wrong, or None."""
     scene = Scene(host, folder)
-    for tries in (commands, unwritable, others, refused, behind, cut, ungrouped, pairs, many_copies, each_copy):
+    for tries in (commands, from_either_end, unwritable, others, refused, behind, cut, ungrouped, pairs, many_copies, each_copy):
         yield from tries(scene)

@@ -9,6 +9,7 @@ SIDES = ('pieces', 'was', 'was.new', 'names', 'counts', 'steps')
 KINDS = ('flush', 'write', 'read', 'name', 'open')
 REPAIRED = re.compile(r'drive: .+ \(place \d+\): the (first|second) copy was (damaged|behind|ahead) and is repaired from the (first|second)')
 GAVE_UP = 2  # the host's status where its drive failed, or is another's
+LISTS = ['list', 'list-back']  # the slides, from either end
 
 
 def library():
@@ -61,12 +62,26 @@ class Run:
         """The answer to the start, or None where it was not reached."""
         return self.lines[0].removeprefix('start: ') if self.lines else None
 
+    def listed(self, command):
+        """The slides that a command printed to its end, in its order, or None."""
+        slides = []
+        for line in self.lines:
+            if line == command + ': 0':
+                return slides
+            slides = [*slides, tuple(map(int, line.split()[1:]))] if line.startswith('slide ') else []
+        return None
+
     def slides(self):
         """The slides of a list that was printed to its end, or None."""
-        if 'list: 0' not in self.lines:
-            return None
-        pairs = (line.split()[1:] for line in self.lines if line.startswith('slide '))
-        return {int(key): int(value) for key, value in pairs}
+        listed = self.listed('list')
+        return None if listed is None else dict(listed)
+
+    def disordered(self):
+        """What is wrong with the order of both lists, or None."""
+        rising, falling = map(self.listed, LISTS)
+        if rising != sorted(rising):
+            return 'the list does not rise'
+        return None if falling == rising[::-1] else f'the list from the last slide on is {falling}, and from the first on {rising}'
 
 
 def run(program, words, commands, side, settings=None):

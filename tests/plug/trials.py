@@ -4,7 +4,7 @@ import os
 from random import Random
 
 from plug.book import CASE, Book
-from plug.programs import counts, forget, plug, run
+from plug.programs import LISTS, counts, forget, plug, run
 from plug.work import Work
 
 PAGES, SLOTS = 72, 448
@@ -27,6 +27,10 @@ class Register:
 
     def run(self, commands, settings=None):
         return run(self.host, (self.file, self.pages, self.slots), commands, self.side, settings)
+
+    def listing(self, settings=None):
+        """A run that lists the slides, from either end."""
+        return self.run(LISTS, settings)
 
     def counts(self):
         """How many events, and calls of each kind, the last run to its end had."""
@@ -57,25 +61,25 @@ class Register:
 
 
 def judged(book, run):
-    """What is wrong after a start to its end, or None."""
+    """What is wrong after a start to its end and both lists, or None."""
     if run.error:
         return run.error
     if not (run.start() or '').startswith('0 '):
         return f'the start was refused: {run.start()}'
     if run.slides() is None:
         return f'the list was refused: {run.lines[-1]}'
-    return book.settle(run.slides())
+    return book.settle(run.slides()) or run.disordered()
 
 
 def recovered(register, book, random):
     """Up to two more deaths, while the register comes back; then it must be there. Returns what is wrong, or None."""
     for _ in range(random.randrange(3)):
         after = random.choice((random.randint(1, register.filled()), register.filled() + random.randint(1, 30)))
-        run = register.run(['list'], plug(after, random.choice(('kill', 'power')), random.randrange(1 << 30)))
+        run = register.listing(plug(after, random.choice(('kill', 'power')), random.randrange(1 << 30)))
         wrong = None if run.died else judged(book, run)
         if wrong:
             return wrong
-    return judged(book, register.run(['list']))
+    return judged(book, register.listing())
 
 
 def noted(book, run, commands):
@@ -105,7 +109,7 @@ def worked(register, seed):
     for command, answer in register.run(commands).answers(commands):
         book.take(command, answer)
     book.cut(None)
-    wrong = judged(book, register.run(['list']))
+    wrong = judged(book, register.listing())
     if wrong:
         raise ValueError(wrong)
     return book, register.image(), [*work.each_page(), *work.jammed(), *work.commands(20, removing=0.5)]
