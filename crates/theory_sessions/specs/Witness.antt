@@ -14,7 +14,7 @@ use Rattle.def_layout.specs.Sizes.{page-size, slot-size}
 use Rattle.def_model.specs.Areas.{pages-of}
 use Rattle.def_model.specs.Answers.{Outcome, answer-numbers}
 use Rattle.def_model.specs.TreeRules.{leaf-records}
-use Rattle.def_model.specs.OnBytes.{begin, restart, insert, delete, commit, write-out, outcome, Lent, call-by, lengths-ok, read-work}
+use Rattle.def_model.specs.OnBytes.{begin, restart, previous, insert, delete, commit, write-out, outcome, Lent, call-by, lengths-ok, read-work}
 use Rattle.def_recovery.specs.Events
 use Rattle.def_recovery.specs.Events.{World, Rubble, Event, result, Allowed, AllAllowed, happen, happen-all, formatted, is-restart, is-format, of-32-bits}
 use Rattle.def_recovery.specs.Demand3.{reason}
