@@ -2,7 +2,7 @@
 use mathlib.Core.Path.{_≡_, ap, ap₂, sym, _∙_}
 use Prim.Native.Nat.{ℕ, _/_}
 use mathlib.Core.Bool.{Bool, true}
-use mathlib.Core.Option.{Option, none}
+use mathlib.Core.Option.{none}
 use mathlib.Core.List.{List, [], map}
 use lib.ListN.{length, replicate, take}
 use Rattle.def_layout.specs.declared.Entry.{Entry}
@@ -11,15 +11,16 @@ use Rattle.def_layout.specs.Desks.{empty-desk}
 use Rattle.def_layout.specs.PageBytes.{page}
 use Rattle.def_layout.specs.Sizes.{page-size, slot-size}
 use Rattle.def_layout.specs.RecordBytes.{empty}
-use Rattle.def_model.specs.declared.Refusal.{Refusal}
 use Rattle.def_model.specs.declared.Answer.the-variants.{Done}
-use Rattle.def_model.specs.Answers.{first-broken}
+use Rattle.def_model.specs.Answers.{Outcome, first-broken}
 use Rattle.def_model.specs.Links.{relinked}
 use Rattle.def_model.specs.Loading.{columns, loaded-pages}
-use Rattle.def_model.specs.Calls.{formatted-pages, format-stores, start-side, format-areas, load-checks, load-by, load-areas}
-use Rattle.def_model.specs.OnBytes.{Call, Lent, Result, format, load, lengths-ok, read-areas, work-bytes, log-bytes, outcome, call-by, call, store-all-bytes, lent-after}
+use Rattle.def_model.specs.Calls.{formatted-pages, format-stores, start-side, format-areas, load-checks, load-areas}
+use Rattle.def_model.specs.OnBytes.{Call, Lent, Result, checks, start-checks, does, start-does, outcome-by, lengths-ok, read-areas, work-bytes, log-bytes, outcome, call-by, call, store-all-bytes, lent-after}
+use Rattle.def_model.specs.CallNames.{format, load}
 use Rattle.law_areas.specs.Working.{read-work-length}
 use Rattle.law_areas.specs.Logs.{read-log-length}
+use Rattle.law_areas.specs.Outcomes.{unbroken-does}
 use Rattle.theory_load.specs.LoadedOrigin.{formatted-loaded}
 use Rattle.area_lengths.specs.Lent.{lent, Sized, lengths-numbers}
 use Rattle.area_format.specs.Started.{Started}
@@ -54,7 +55,7 @@ module _ (l : Lent) (d : Desk) (e : lengths-ok l ≡ true) where
 
   -- ANSWERED where no refusal is found: for a formatting refusal 1.
   pub format-result : call format l d ≡ started-result [] (length (l .work-pages) / page-size) (length (l .work-log) / slot-size)
-  unfolding call call-by outcome format-areas start-side n m
+  unfolding call call-by outcome outcome-by checks start-checks first-broken does start-does format-areas start-side n m
   format-result =
       ap (λ (b : Bool). call-by b format l d) e
       ∙ ap (λ xs. record { answer = Done; work-pages = work-bytes (map page xs) (relinked xs []); work-log = log-bytes (replicate (length (read-areas l .work .log)) empty); desk = empty-desk; stores = format-stores xs (length (read-areas l .work .log)) }) (formatted-loaded (length (read-areas l .work .pages)))
@@ -62,10 +63,10 @@ module _ (l : Lent) (d : Desk) (e : lengths-ok l ≡ true) where
 
   pub load-result : (ks vs : List ℕ) → first-broken (load-checks ks vs (read-areas l)) ≡ none
       → call (load ks vs) l d ≡ started-result (columns ks vs) (length (l .work-pages) / page-size) (length (l .work-log) / slot-size)
-  unfolding call call-by outcome load-areas load-by start-side n m
+  unfolding call call-by checks start-checks does start-does load-areas start-side n m
   load-result ks vs passes =
       ap (λ (b : Bool). call-by b (load ks vs) l d) e
-      ∙ ap (λ (o : Option Refusal). let x = load-by o ks vs (read-areas l) in record { answer = x .answer; work-pages = work-bytes (x .work .pages) (x .work .lefts); work-log = log-bytes (x .work .log); desk = x .desk; stores = x .stores }) passes
+      ∙ ap (λ (x : Outcome). record { answer = x .answer; work-pages = work-bytes (x .work .pages) (x .work .lefts); work-log = log-bytes (x .work .log); desk = x .desk; stores = x .stores }) (unbroken-does (load ks vs) (read-areas l) d passes)
       ∙ ap₂ (started-result (columns ks vs)) pages-read slots-read
 
 -- STARTED, and the working pages' left links then worked out.

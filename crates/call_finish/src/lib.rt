@@ -20,7 +20,7 @@ use tree_write::Run;
 use tree_write::note;
 ghost use mathlib.Core.List.{List};
 ghost use Prim.Native.Nat.{ℕ, _≤_, _<_};
-ghost use Rattle.def_model.specs.OnBytes as calls;
+ghost use Rattle.def_model.specs.CallNames as calls;
 ghost use Rattle.law_bytes.specs.AreaSizes.{HasSlots, HasAreas};
 ghost use Rattle.area_lengths.specs.Lent.{lent, at-entry, at-exit};
 ghost use Rattle.call_reply.specs.Replies.{Replies};

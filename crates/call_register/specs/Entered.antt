@@ -15,7 +15,7 @@ use Rattle.def_model.specs.declared.Refusal.{Refusal}
 use Rattle.def_model.specs.declared.Refusal.the-variants.{Lengths, PageNumber, Unsound}
 use Rattle.def_model.specs.declared.Answer.the-variants.{Refused}
 use Rattle.def_model.specs.Sound.{sound}
-use Rattle.def_model.specs.OnBytes.{Call, lengths-ok, read-areas}
+use Rattle.def_model.specs.OnBytes.{Request, request, lengths-ok, read-areas}
 use Rattle.area_lengths.specs.Lent.{lent, Sized, lengths-numbers}
 use Rattle.log_pending.specs.Reading.{reads-few}
 use Rattle.law_bytes.specs.AreaSizes.{HasAreas}
@@ -35,8 +35,8 @@ Sizes n m wp sp wl sl d st =
     HasAreas n m wp wl × HasAreas n m sp sl × (d .stored ≤ d .logged) × (d .logged ≤ m) × (st .pending ≤ 16384) × LowRows (d .rows)
 
 pub record Entered (wp sp wl sl : List ℕ) (d : Desk) (p : ℕ) (e : Entry) : Type 0 where
-  pub refuses : e .ok ≡ false → (c : Call) (budget : ℕ) (r : Reply) → (r .answer ≡ Refused (e .why)) × (r .desk ≡ d) → names c ≡ some p
-      → Replies c (lent wp sp wl sl) d budget r (lent wp sp wl sl)
+  pub refuses : e .ok ≡ false → (q : Request) (budget : ℕ) (r : Reply) → (r .answer ≡ Refused (e .why)) × (r .desk ≡ d) → names q ≡ some p
+      → Replies (request q) (lent wp sp wl sl) d budget r (lent wp sp wl sl)
   pub sizes : e .ok ≡ true → Sizes (e .pages) (e .slots) wp sp wl sl d (e .standing) × (p < e .pages)
   pub given : e .ok ≡ true → Given (e .pages) (e .slots) wp sp wl sl d (e .standing)
 
@@ -47,24 +47,24 @@ low-rows {wl = wl} {l = l} m few k =
     subst LowRows (sym (k .rows)) (judge.accepted-low m wl l few (record { reads = k .reads; holds = k .holds }))
 
 module _ (wp sp wl sl : List ℕ) (d : Desk) (p : ℕ) (e : Entry) where
-  stopped : (why : Refusal) → (e .ok ≡ false) × (e .why ≡ why) → ((c : Call) (budget : ℕ) (r : Reply) → names c ≡ some p → r .answer ≡ Refused why → r .desk ≡ d → Replies c (lent wp sp wl sl) d budget r (lent wp sp wl sl)) → Entered wp sp wl sl d p e
+  stopped : (why : Refusal) → (e .ok ≡ false) × (e .why ≡ why) → ((q : Request) (budget : ℕ) (r : Reply) → names q ≡ some p → r .answer ≡ Refused why → r .desk ≡ d → Replies (request q) (lent wp sp wl sl) d budget r (lent wp sp wl sl)) → Entered wp sp wl sl d p e
   stopped why h f =
       record {
-        refuses = λ t c budget r a q. f c budget r q (a .0 ∙ ap Refused (h .1)) (a .1);
+        refuses = λ t q budget r a i. f q budget r i (a .0 ∙ ap Refused (h .1)) (a .1);
         sizes = λ t. clash (sym t ∙ h .0);
         given = λ t. clash (sym t ∙ h .0);
       }
 
   pub entered-1 : (e .ok ≡ false) × (e .why ≡ Lengths) → lengths-ok (lent wp sp wl sl) ≡ false → Entered wp sp wl sl d p e
-  entered-1 h f = stopped Lengths h (λ c budget r q. by-1 wp sp wl sl d p budget r c q f)
+  entered-1 h f = stopped Lengths h (λ q budget r i. by-1 wp sp wl sl d budget r q f)
 
   module _ (lens : lengths-ok (lent wp sp wl sl) ≡ true) where
     pub entered-2 : (e .ok ≡ false) × (e .why ≡ PageNumber) → length wp / 128 ≤ p → Entered wp sp wl sl d p e
-    entered-2 h f = stopped PageNumber h (λ c budget r q. by-2 wp sp wl sl d p budget r c q lens f)
+    entered-2 h f = stopped PageNumber h (λ q budget r i. by-2 wp sp wl sl d budget r q lens p i f)
 
     module _ (here : p < length wp / 128) where
       pub entered-11 : (e .ok ≡ false) × (e .why ≡ Unsound) → sound (read-areas (lent wp sp wl sl)) d ≡ false → Entered wp sp wl sl d p e
-      entered-11 h f = stopped Unsound h (λ c budget r q. by-11 wp sp wl sl d p budget r c q lens here f)
+      entered-11 h f = stopped Unsound h (λ q budget r i. by-11 wp sp wl sl d budget r q lens p i here f)
 
       pub entered-0 : e .ok ≡ true → e .pages ≡ length wp / 128 → e .slots ≡ length wl / 144 → Stands (e .pages) (e .slots) wp wl sl d (e .standing) → e .standing .ok ≡ true
           → Entered wp sp wl sl d p e

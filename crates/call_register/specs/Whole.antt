@@ -20,9 +20,10 @@ use Rattle.def_model.specs.Log.{records-of}
 use Rattle.def_model.specs.Areas.{Areas, Store, store-page, pages-of, slot-stores, log-stores}
 use Rattle.def_model.specs.Answers.{first-broken}
 use Rattle.def_model.specs.Update.{Run, going, emit-by, emit}
-use Rattle.def_model.specs.Calls.{run-of, stored-run, last-record, formatted-pages, page-stores, format-stores, format-areas, load-checks, load-by, load-areas, commit-checks, commit-by, commit-batch, write-out-checks, write-out-by, write-out-page}
-use Rattle.def_model.specs.Restart.{restarted, restart-checks, restart-by, restart-areas}
-use Rattle.def_model.specs.OnBytes.{Call, format, load, commit, write-out, restart, Lent, lengths-ok, read-work, read-log, read-areas, outcome, call-by, call, store-all-bytes, lent-after}
+use Rattle.def_model.specs.Calls.{run-of, stored-run, last-record, formatted-pages, page-stores, format-stores, format-areas, load-areas, commit-batch, write-out-page}
+use Rattle.def_model.specs.Restart.{restarted, restart-areas}
+use Rattle.def_model.specs.OnBytes.{Call, checks, start-checks, does, start-does, request-does, refused, outcome-by, Lent, lengths-ok, read-work, read-log, read-areas, outcome, call-by, call, store-all-bytes, lent-after}
+use Rattle.def_model.specs.CallNames.{format, load, restart, commit, write-out}
 use Rattle.def_model.specs.Loading.{columns, loaded-count, loaded-pages}
 use Rattle.def_model.specs.Update as update
 use Rattle.law_areas.specs.Logs.{read-log-length}
@@ -65,13 +66,17 @@ emit-few r s true true = let e = length-append (s .log) (r ∷ []) in omega arit
 emit-few r s true false = omega arith
 emit-few r s false b = omega arith
 
--- By the lengths: none where they are refused.
-by-lengths : (c : Call) (l : Lent) (d : Desk) → (lengths-ok l ≡ true → length (outcome c (read-areas l) d .stores) ≤ 20000) → length (call c l d .stores) ≤ 20000
-unfolding call call-by
-by-lengths c l d f = go (case (lengths-ok l))
+-- A refused call has none: as many as the call has where no check is broken.
+by-checks : (c : Call) (l : Lent) (d : Desk) → (lengths-ok l ≡ true → first-broken (checks c (read-areas l) d) ≡ none → length (does c (read-areas l) d .stores) ≤ 20000) → length (call c l d .stores) ≤ 20000
+unfolding call call-by outcome outcome-by refused
+by-checks c l d f = go (case (lengths-ok l))
   where
+    checked : lengths-ok l ≡ true → (o : Option Refusal) → first-broken (checks c (read-areas l) d) ≡ o → length (outcome-by o c (read-areas l) d .stores) ≤ 20000
+    checked lens none e = f lens e
+    checked lens (some r) e = omega arith
+
     go : Case (lengths-ok l) → length (call c l d .stores) ≤ 20000
-    go (yes! e) = rw e (f e)
+    go (yes! e) = rw e (checked e (first-broken (checks c (read-areas l) d)) refl)
     go (no! e) = rw e (omega arith)
 
 module _ (l : Lent) (lens : lengths-ok l ≡ true) where
@@ -95,39 +100,40 @@ module _ (l : Lent) (lens : lengths-ok l ≡ true) where
 stored-few : (n : ℕ) (log : List Rec) (more : List Store) → length log ≤ 16385 → length more ≤ 1 → length (log-stores n log ++ more) ≤ 20000
 stored-few n log more h i = let e = length-append (log-stores n log) more in let k = log-stores-length n log in omega arith
 
-commit-stores : (o : Option Refusal) (b : ℕ) (a : Areas) (d : Desk) → length (run-of a .log) ≤ 16384 → length (commit-by o b a d .stores) ≤ 20000
-unfolding commit-by stored-run emit
-commit-stores (some r) b a d h = omega arith
-commit-stores none b a d h =
-    let s : Run = run-of a in
-    let r : Rec = batch-row records.commit b (last-record b a) in
-    let t : length (emit r s .log) ≤ suc (length (s .log)) = emit-few r s (going s) (ltb 0 (s .room)) in
-    stored-few (d .stored) (emit r s .log) [] (omega arith) (omega arith)
-
 pub commit-few : (b : ℕ) (l : Lent) (d : Desk) → length (call (commit b) l d .stores) ≤ 20000
-unfolding outcome commit-batch run-of read-areas
-commit-few b l d = by-lengths (commit b) l d (λ lens. commit-stores (first-broken (commit-checks b (read-areas l) d)) b (read-areas l) d (work-few l lens))
-
-write-out-stores : (o : Option Refusal) (p : ℕ) (a : Areas) (d : Desk) → length (run-of a .log) ≤ 16384 → length (write-out-by o p a d .stores) ≤ 20000
-unfolding write-out-by stored-run
-write-out-stores (some r) p a d h = omega arith
-write-out-stores none p a d h = stored-few (d .stored) (run-of a .log) (store-page p (at (pages-of (a .work .pages)) p) ∷ []) (omega arith) (omega arith)
+unfolding does request-does commit-batch stored-run emit run-of read-areas
+commit-few b l d = by-checks (commit b) l d few
+  where
+    few : lengths-ok l ≡ true → first-broken (checks (commit b) (read-areas l) d) ≡ none → length (does (commit b) (read-areas l) d .stores) ≤ 20000
+    few lens e =
+        let a : Areas = read-areas l in
+        let s : Run = run-of a in
+        let r : Rec = batch-row records.commit b (last-record b a) in
+        let w : length (s .log) ≤ 16384 = work-few l lens in
+        let t : length (emit r s .log) ≤ suc (length (s .log)) = emit-few r s (going s) (ltb 0 (s .room)) in
+        stored-few (d .stored) (emit r s .log) [] (omega arith) (omega arith)
 
 pub write-out-few : (p : ℕ) (l : Lent) (d : Desk) → length (call (write-out p) l d .stores) ≤ 20000
-unfolding outcome write-out-page run-of read-areas
-write-out-few p l d = by-lengths (write-out p) l d (λ lens. write-out-stores (first-broken (write-out-checks p (read-areas l) d)) p (read-areas l) d (work-few l lens))
-
-restart-stores : (o : Option Refusal) (a : Areas) → length (a .stable .log) ≤ 16384 → length (restart-by o a .stores) ≤ 20000
-unfolding restart-by
-restart-stores (some r) a h = omega arith
-restart-stores none a h =
-    let k = log-stores-length (length (records-of (a .stable .log))) (restarted a .log) in
-    let w = restarted-within a in
-    omega arith
+unfolding does request-does write-out-page stored-run run-of read-areas
+write-out-few p l d = by-checks (write-out p) l d few
+  where
+    few : lengths-ok l ≡ true → first-broken (checks (write-out p) (read-areas l) d) ≡ none → length (does (write-out p) (read-areas l) d .stores) ≤ 20000
+    few lens e =
+        let a : Areas = read-areas l in
+        let w : length (run-of a .log) ≤ 16384 = work-few l lens in
+        stored-few (d .stored) (run-of a .log) (store-page p (at (pages-of (a .work .pages)) p) ∷ []) (omega arith) (omega arith)
 
 pub restart-few : (l : Lent) (d : Desk) → length (call restart l d .stores) ≤ 20000
-unfolding outcome restart-areas read-areas
-restart-few l d = by-lengths restart l d (λ lens. restart-stores (first-broken (restart-checks (read-areas l))) (read-areas l) (stable-few l lens))
+unfolding does restart-areas read-areas
+restart-few l d = by-checks restart l d few
+  where
+    few : lengths-ok l ≡ true → first-broken (checks restart (read-areas l) d) ≡ none → length (does restart (read-areas l) d .stores) ≤ 20000
+    few lens e =
+        let a : Areas = read-areas l in
+        let h : length (a .stable .log) ≤ 16384 = stable-few l lens in
+        let k = log-stores-length (length (records-of (a .stable .log))) (restarted a .log) in
+        let w = restarted-within a in
+        omega arith
 
 start-stores-few : (xs : List Page) (m : ℕ) → length xs ≤ 896 → m ≤ 16384 → length (format-stores xs m) ≤ 20000
 unfolding format-stores
@@ -147,26 +153,24 @@ lent-few l lens =
     (omega (arith, en, q .1), omega (arith, en, q .2), omega (arith, em, q .6))
 
 pub format-few : (l : Lent) (d : Desk) → length (call format l d .stores) ≤ 20000
-unfolding outcome format-areas read-areas
-format-few l d = by-lengths format l d few
+unfolding does start-does format-areas read-areas
+format-few l d = by-checks format l d few
   where
-    few : lengths-ok l ≡ true → length (outcome format (read-areas l) d .stores) ≤ 20000
-    few lens =
+    few : lengths-ok l ≡ true → first-broken (checks format (read-areas l) d) ≡ none → length (does format (read-areas l) d .stores) ≤ 20000
+    few lens e =
         let (least, most, slots) = lent-few l lens in
         let n = length (read-work (l .work-pages)) in
         start-stores-few (formatted-pages n) (length (read-log (l .work-log))) (omega (arith, formatted-length n (omega arith))) slots
 
-load-stores : (o : Option Refusal) (ks vs : List ℕ) (l : Lent) (d : Desk) → lengths-ok l ≡ true → first-broken (load-checks ks vs (read-areas l)) ≡ o → length (load-by o ks vs (read-areas l) .stores) ≤ 20000
-unfolding load-by read-areas
-load-stores (some r) ks vs l d lens e = omega arith
-load-stores none ks vs l d lens e =
-    let (least, most, slots) = lent-few l lens in
-    let n = length (read-work (l .work-pages)) in
-    let k = load-kept ks vs (read-areas l) e in
-    let len = columns-length ks vs (k .same) in
-    let enough = subst (λ q. suc (loaded-count q) ≤ n) (sym len) (k .enough) in
-    start-stores-few (loaded-pages n (columns ks vs)) (length (read-log (l .work-log))) (omega (arith, loaded-length n (columns ks vs) enough)) slots
-
 pub load-few : (ks vs : List ℕ) (l : Lent) (d : Desk) → length (call (load ks vs) l d .stores) ≤ 20000
-unfolding outcome load-areas
-load-few ks vs l d = by-lengths (load ks vs) l d (λ lens. load-stores (first-broken (load-checks ks vs (read-areas l))) ks vs l d lens refl)
+unfolding checks start-checks does start-does load-areas read-areas
+load-few ks vs l d = by-checks (load ks vs) l d few
+  where
+    few : lengths-ok l ≡ true → first-broken (checks (load ks vs) (read-areas l) d) ≡ none → length (does (load ks vs) (read-areas l) d .stores) ≤ 20000
+    few lens e =
+        let (least, most, slots) = lent-few l lens in
+        let n = length (read-work (l .work-pages)) in
+        let k = load-kept ks vs (read-areas l) e in
+        let len = columns-length ks vs (k .same) in
+        let enough = subst (λ q. suc (loaded-count q) ≤ n) (sym len) (k .enough) in
+        start-stores-few (loaded-pages n (columns ks vs)) (length (read-log (l .work-log))) (omega (arith, loaded-length n (columns ks vs) enough)) slots

@@ -25,7 +25,7 @@ use sound_register::standing_of;
 ghost use mathlib.Core.Path.{_≡_};
 ghost use mathlib.Core.Bool.{false};
 ghost use Prim.Native.Nat.{ℕ};
-ghost use Rattle.def_model.specs.OnBytes as calls;
+ghost use Rattle.def_model.specs.CallNames as calls;
 ghost use Rattle.area_lengths.specs.Lent.{at-entry, at-exit};
 ghost use Rattle.call_reply.specs.Replies.{Replies, RepliesWhole};
 ghost use Rattle.call_register.specs.Entered.{Entered};

@@ -29,7 +29,7 @@ ghost use Prim.Native.Nat.{_≤_};
 ghost use lib.ListN.{length};
 ghost use Rattle.def_layout.specs.Desks.{empty-desk};
 ghost use Rattle.def_layout.specs.Numbers.{zeros};
-ghost use Rattle.def_model.specs.OnBytes as calls;
+ghost use Rattle.def_model.specs.CallNames as calls;
 ghost use Rattle.def_model.specs.declared.Answer.the-variants.{Refused};
 ghost use Rattle.law_bytes.specs.AreaSizes.{HasSlots, HasAreas};
 ghost use Rattle.area_lengths.specs.Lent.{at-entry, at-exit};

@@ -16,7 +16,7 @@ use Rattle.def_model.specs.declared.Refusal.{Refusal}
 use Rattle.def_model.specs.declared.Refusal.the-variants.{NoBatch, Held, Present, Absent, SlotsShort, PagesShort}
 use Rattle.def_model.specs.declared.Answer.the-variants.{Done, Refused}
 use Rattle.def_model.specs.Answers.{Check, check, first-broken, passed}
-use Rattle.def_recovery.specs.Events.{of-32-bits}
+use Rattle.def_recovery.specs.Events.{request-32, of-32-bits}
 use Rattle.def_model.specs.Areas.{Areas}
 use Rattle.def_model.specs.Fit.{found}
 use Rattle.def_model.specs.Lookup.{fetched}
@@ -25,7 +25,7 @@ use Rattle.def_model.specs.Batches.{find-batch, unmarked}
 use Rattle.def_model.specs.Update.{put-record, remove-record}
 use Rattle.def_model.specs.Sound.{work-pages, work-log, work-slots, work-open, update-has-slots, update-has-pages}
 use Rattle.def_model.specs.Calls.{run-of, value-or, is-unsound, no-live-batch, held-change, no-slots, no-pages, zero-key, insert-checks, delete-checks}
-use Rattle.def_model.specs.OnBytes.{Lent, insert, delete, outcome, read-areas}
+use Rattle.def_model.specs.OnBytes.{Lent, request, insert, delete, request-checks, read-areas}
 use Rattle.sound_parts.specs.Reserves.{update-slots-by, update-pages-by}
 use Rattle.area_lengths.specs.Lent.{lent}
 use Rattle.law_bytes.specs.DeskRows.{place-of}
@@ -142,9 +142,11 @@ module _ {n m : ℕ} {wp sp wl sl : List ℕ} {d : Desk} {st : Standing} (g : Gi
 
   module _ (wrong : Bool) (u : Bar) where
     pub insert-barred : (v : ℕ) → k ≢ 0 → wrong ≡ found value → Bars d (lent wp sp wl sl) b k wrong Present u → u .ok ≡ false → Answers g (insert b k v) (Refused (u .why))
+    unfolding request-checks
     insert-barred v nz w h t = refuse g (insert b k v) (u .why) (as-insert wrong (some (u .why)) nz w (h .refuses t))
 
     pub delete-barred : wrong ≡ not (found value) → Bars d (lent wp sp wl sl) b k wrong Absent u → u .ok ≡ false → Answers g (delete b k) (Refused (u .why))
+    unfolding request-checks
     delete-barred w h t = refuse g (delete b k) (u .why) (as-delete wrong (some (u .why)) w (h .refuses t))
 
   -- ---- where no check refuses: one record more, and the row and the count anew
@@ -152,27 +154,27 @@ module _ {n m : ℕ} {wp sp wl sl : List ℕ} {d : Desk} {st : Standing} (g : Gi
   module _ {wp₁ wp′ wl′ : List ℕ} (wrong : Bool) (i budget : ℕ) (t : run.Run) (r : Reply) (kt : k ≤ top) (bt : b ≤ top) (links : Links n wp₁ wp′) (a : r .answer ≡ Done)
       (de : r .desk ≡ record { rows = set (d .rows) i (record { batch = b; last = t .logged; undo = t .logged; pending = row-at (d .rows) i .pending + 1 }); logged = t .logged; stored = d .stored }) where
     pub insert-0 : (v : ℕ) → v ≤ top → k ≢ 0 → wrong ≡ found value → Free d (lent wp sp wl sl) b k wrong Present i → Shows n m wp₁ wl′ t (put-record records.insert b (row-at (d .rows) i .last) k v (run-of (areas g)))
-        → Replies (insert b k v) (lent wp sp wl sl) d budget r (lent wp′ sp wl′ sl)
-    unfolding outcome run-of read-areas of-32-bits passed
+        → Replies (request (insert b k v)) (lent wp sp wl sl) d budget r (lent wp′ sp wl′ sl)
+    unfolding run-of read-areas of-32-bits request-32 passed
     insert-0 v vt nz w f sh =
         let l = last-is g b i (f .place) (f .low) in
         let z = open-zero g b i (f .place) (f .low) in
         let x = insert-runs (areas g) d (can .few) (can .equal) (can .small) (g .is-sound) b (row-at (d .rows) i .last) k v kt (found-none value (sym w ∙ f .right)) (f .slots) (f .pages) in
-        left-linked (insert b k v) wp sp wl sl d (g .lengths) Done budget (put-record records.insert b (row-at (d .rows) i .last) k v (run-of (areas g))) r
+        left-linked (request (insert b k v)) wp sp wl sl d (g .lengths) Done budget (put-record records.insert b (row-at (d .rows) i .last) k v (run-of (areas g))) r
         (and-both (le-true b top bt) (and-both (le-true k top kt) (le-true v top vt))) refl (given-slots g)
         (insert-goes (areas g) d b k v (as-insert wrong none nz w (f .none-broken)) ∙ rw (← l)) sh links a
         (de ∙ sym (insert-desk (run-of (areas g)) d (given-chain g) (g .known .desk) b _ k v i _ (t .logged) (d .stored) (z .0) (z .1) (f .low) refl (x .ready .goes) (sym (sh .logged))))
 
     pub delete-0 : (v : ℕ) → v ≡ value-or value → wrong ≡ not (found value) → Free d (lent wp sp wl sl) b k wrong Absent i
         → Shows n m wp₁ wl′ t (remove-record records.delete b (row-at (d .rows) i .last) k v (run-of (areas g)))
-        → Replies (delete b k) (lent wp sp wl sl) d budget r (lent wp′ sp wl′ sl)
-    unfolding outcome run-of read-areas of-32-bits passed
+        → Replies (request (delete b k)) (lent wp sp wl sl) d budget r (lent wp′ sp wl′ sl)
+    unfolding run-of read-areas of-32-bits request-32 passed
     delete-0 v e w f sh =
         let l = last-is g b i (f .place) (f .low) in
         let z = open-zero g b i (f .place) (f .low) in
         let there : value ≡ some v = found-some value (sym w ∙ f .right) ∙ ap some (sym e) in
         let x = delete-runs (areas g) d (can .few) (can .equal) (can .small) (g .is-sound) b (row-at (d .rows) i .last) k v kt there (f .slots) (f .pages) in
-        left-linked (delete b k) wp sp wl sl d (g .lengths) Done budget (remove-record records.delete b (row-at (d .rows) i .last) k v (run-of (areas g))) r
+        left-linked (request (delete b k)) wp sp wl sl d (g .lengths) Done budget (remove-record records.delete b (row-at (d .rows) i .last) k v (run-of (areas g))) r
         (and-both (le-true b top bt) (le-true k top kt)) refl (given-slots g)
         (delete-goes (areas g) d b k (as-delete wrong none w (f .none-broken)) ∙ rw (← l, ← e)) sh links a
         (de ∙ sym (delete-desk (run-of (areas g)) d (given-chain g) (g .known .desk) b _ k v i _ (t .logged) (d .stored) (z .0) (z .1) (f .low) refl (x .ready .goes) (sym (sh .logged))))

@@ -26,9 +26,10 @@ use Rattle.def_model.specs.Update.{emit}
 use Rattle.def_model.specs.Links.{of-leaves, relinked}
 use Rattle.def_model.specs.Sound.{sound, layouts-ok, log-ok, work-pages, work-log, work-slots, work-open}
 use Rattle.def_model.specs.Calls.{run-of, is-none, last-of, last-record, unchanged}
-use Rattle.def_model.specs.OnBytes.{Call, lengths-ok, read-lefts, read-log, read-areas, outcome}
+use Rattle.def_model.specs.OnBytes.{Request, request, checks, request-checks, refused-desk, refused-work, refused, lengths-ok, read-lefts, read-log, read-areas, outcome}
 use Rattle.law_bytes.specs.Tables.{getD-tab}
 use Rattle.law_areas.specs.Logs.{read-log-length}
+use Rattle.law_areas.specs.Outcomes.{broken-refused}
 use Rattle.law_areas.specs.Working.{paired-lefts, work-length, read-work-length, read-lefts-length}
 use Rattle.law_areas.specs.WorkPages.{paired-leaves}
 use Rattle.theory_tree.specs.Shape.LeftLinks.{of-leaves-length, relinked-same}
@@ -44,7 +45,6 @@ use Rattle.call_reply.specs.declared.Reply.{Reply}
 use Rattle.call_reply.specs.Replies.{Replies, left-alone}
 use Rattle.sound_register.specs.declared.Standing.{Standing}
 use Rattle.sound_register.specs.Standing.{Known, pages-in, log-in}
-use Rattle.call_slides.specs.Checked.{checks, refused-first}
 
 pub record Given (n m : ℕ) (wp sp wl sl : List ℕ) (d : Desk) (r : Standing) : Type 0 where
   pub lengths : lengths-ok (lent wp sp wl sl) ≡ true
@@ -83,14 +83,15 @@ module _ {n m : ℕ} {wp sp wl sl : List ℕ} {d : Desk} {r : Standing} (g : Giv
   log = records-of (read-log wl)
 
   -- An answer that leaves everything as it is, and a check that is broken.
-  abbrev pub Answers : Call → Answer → Type 0
-  Answers c answer = (budget : ℕ) (y : Reply) → (y .answer ≡ answer) × (y .desk ≡ d) → Replies c (lent wp sp wl sl) d budget y (lent wp sp wl sl)
+  abbrev pub Answers : Request → Answer → Type 0
+  Answers q answer = (budget : ℕ) (y : Reply) → (y .answer ≡ answer) × (y .desk ≡ d) → Replies (request q) (lent wp sp wl sl) d budget y (lent wp sp wl sl)
 
-  pub answer : (c : Call) (w : Answer) → outcome c areas d ≡ unchanged w areas d → Answers c w
-  answer c w e budget y h = left-alone c wp sp wl sl d (g .lengths) w budget y e (h .0) (h .1)
+  pub answer : (q : Request) (w : Answer) → outcome (request q) areas d ≡ unchanged w areas d → Answers q w
+  answer q w e budget y h = left-alone (request q) wp sp wl sl d (g .lengths) w budget y e (h .0) (h .1)
 
-  pub refuse : (c : Call) (why : Refusal) → first-broken (checks c areas d) ≡ some why → Answers c (Refused why)
-  refuse c why e = answer c (Refused why) (refused-first areas d c why e)
+  pub refuse : (q : Request) (why : Refusal) → first-broken (request-checks q areas d) ≡ some why → Answers q (Refused why)
+  unfolding checks refused refused-work refused-desk
+  refuse q why e = answer q (Refused why) (broken-refused (request q) areas d why e)
 
   pub given-chain : chain-ok 1 (work-log areas) [] ≡ true
   unfolding sound read-areas

@@ -16,7 +16,7 @@ use Rattle.def_model.specs.Batches.{find-batch}
 use Rattle.def_model.specs.Pending.{held, held-between, held-from}
 use Rattle.def_model.specs.Sound.{work-pages, work-log, work-open}
 use Rattle.def_model.specs.Calls.{is-none, next-limit, before, previous-limit, fetch-checks, next-checks, previous-checks}
-use Rattle.def_model.specs.OnBytes.{fetch, next, previous, outcome, read-areas}
+use Rattle.def_model.specs.OnBytes.{fetch, next, previous, ask, question-checks, request-checks, read-areas}
 use Rattle.law_bytes.specs.PageAreas as shown
 use Rattle.law_areas.specs.Pages.{AllPagesFit}
 use Rattle.sound_register.specs.Parts.{lefts-read}
@@ -51,55 +51,54 @@ module _ {n m : ℕ} {wp sp wl sl : List ℕ} {d : Desk} {st : Standing} (g : Gi
   held-known = known-rows (g .known)
 
   module _ (b k i : ℕ) (e : i ≡ open-place b (d .rows)) where
-    pub fetch-12 : 8 ≤ i → Answers g (fetch b k) (Refused NoBatch)
-    unfolding fetch-checks first-broken
-    fetch-12 h = refuse g (fetch b k) NoBatch (rw (g .is-sound, open-none g b i e h))
+    pub fetch-12 : 8 ≤ i → Answers g (ask (fetch b k)) (Refused NoBatch)
+    unfolding request-checks question-checks fetch-checks first-broken
+    fetch-12 h = refuse g (ask (fetch b k)) NoBatch (rw (g .is-sound, open-none g b i e h))
 
-    pub next-12 : 8 ≤ i → Answers g (next b k) (Refused NoBatch)
-    unfolding next-checks first-broken
-    next-12 h = refuse g (next b k) NoBatch (rw (g .is-sound, open-none g b i e h))
+    pub next-12 : 8 ≤ i → Answers g (ask (next b k)) (Refused NoBatch)
+    unfolding request-checks question-checks next-checks first-broken
+    next-12 h = refuse g (ask (next b k)) NoBatch (rw (g .is-sound, open-none g b i e h))
 
-    pub previous-12 : 8 ≤ i → Answers g (previous b k) (Refused NoBatch)
-    unfolding previous-checks first-broken
-    previous-12 h = refuse g (previous b k) NoBatch (rw (g .is-sound, open-none g b i e h))
+    pub previous-12 : 8 ≤ i → Answers g (ask (previous b k)) (Refused NoBatch)
+    unfolding request-checks question-checks previous-checks first-broken
+    previous-12 h = refuse g (ask (previous b k)) NoBatch (rw (g .is-sound, open-none g b i e h))
 
     module _ (h : i < 8) where
       there : is-none (find-batch b (work-open (areas g))) ≡ false
       there = open-some g b i e h
 
-      pub fetch-14 : held b k (work-open (areas g)) ≡ true → Answers g (fetch b k) (Refused Held)
-      unfolding fetch-checks first-broken
-      fetch-14 q = refuse g (fetch b k) Held (rw (g .is-sound, there, q))
+      pub fetch-14 : held b k (work-open (areas g)) ≡ true → Answers g (ask (fetch b k)) (Refused Held)
+      unfolding request-checks question-checks fetch-checks first-broken
+      fetch-14 q = refuse g (ask (fetch b k)) Held (rw (g .is-sound, there, q))
 
       module _ (q : held b k (work-open (areas g)) ≡ false) where
-        pub fetch-16 : fetched k (work-pages (areas g)) ≡ none → Answers g (fetch b k) (Refused Absent)
-        unfolding fetch-checks first-broken found
-        fetch-16 f = refuse g (fetch b k) Absent (rw (g .is-sound, there, q, f))
+        pub fetch-16 : fetched k (work-pages (areas g)) ≡ none → Answers g (ask (fetch b k)) (Refused Absent)
+        unfolding request-checks question-checks fetch-checks first-broken found
+        fetch-16 f = refuse g (ask (fetch b k)) Absent (rw (g .is-sound, there, q, f))
 
-        pub fetch-0 : (v : ℕ) → fetched k (work-pages (areas g)) ≡ some v → Answers g (fetch b k) (Number v)
-        unfolding outcome
-        fetch-0 v f = answer g (fetch b k) (Number v) (fetch-goes (areas g) d (g .is-sound) b k there v q f)
+        pub fetch-0 : (v : ℕ) → fetched k (work-pages (areas g)) ≡ some v → Answers g (ask (fetch b k)) (Number v)
+        fetch-0 v f = answer g (ask (fetch b k)) (Number v) (fetch-goes (areas g) d (g .is-sound) b k there v q f)
 
-      pub next-14 : (o : Option Entry) → next-above k (work-pages (areas g)) ≡ o → held-between b k (next-limit o) (work-open (areas g)) ≡ true → Answers g (next b k) (Refused Held)
-      unfolding next-checks first-broken
-      next-14 o f q = refuse g (next b k) Held (rw (g .is-sound, there, f, q))
+      pub next-14 : (o : Option Entry) → next-above k (work-pages (areas g)) ≡ o → held-between b k (next-limit o) (work-open (areas g)) ≡ true → Answers g (ask (next b k)) (Refused Held)
+      unfolding request-checks question-checks next-checks first-broken
+      next-14 o f q = refuse g (ask (next b k)) Held (rw (g .is-sound, there, f, q))
 
-      pub next-16 : next-above k (work-pages (areas g)) ≡ none → held-between b k top (work-open (areas g)) ≡ false → Answers g (next b k) (Refused Absent)
-      unfolding next-checks first-broken next-limit is-none
-      next-16 f q = refuse g (next b k) Absent (rw (g .is-sound, there, f, q))
+      pub next-16 : next-above k (work-pages (areas g)) ≡ none → held-between b k top (work-open (areas g)) ≡ false → Answers g (ask (next b k)) (Refused Absent)
+      unfolding request-checks question-checks next-checks first-broken next-limit is-none
+      next-16 f q = refuse g (ask (next b k)) Absent (rw (g .is-sound, there, f, q))
 
-      pub next-0 : (key v : ℕ) → next-above k (work-pages (areas g)) ≡ some (entry key v) → held-between b k key (work-open (areas g)) ≡ false → Answers g (next b k) (Pair key v)
-      unfolding outcome next-limit
-      next-0 key v f q = answer g (next b k) (Pair key v) (next-goes (areas g) d (g .is-sound) b k there (entry key v) f q)
+      pub next-0 : (key v : ℕ) → next-above k (work-pages (areas g)) ≡ some (entry key v) → held-between b k key (work-open (areas g)) ≡ false → Answers g (ask (next b k)) (Pair key v)
+      unfolding next-limit
+      next-0 key v f q = answer g (ask (next b k)) (Pair key v) (next-goes (areas g) d (g .is-sound) b k there (entry key v) f q)
 
-      pub previous-14 : (o : Option Entry) → before k (areas g) ≡ o → held-from b (previous-limit o) k (work-open (areas g)) ≡ true → Answers g (previous b k) (Refused Held)
-      unfolding previous-checks first-broken
-      previous-14 o f q = refuse g (previous b k) Held (rw (g .is-sound, there, f, q))
+      pub previous-14 : (o : Option Entry) → before k (areas g) ≡ o → held-from b (previous-limit o) k (work-open (areas g)) ≡ true → Answers g (ask (previous b k)) (Refused Held)
+      unfolding request-checks question-checks previous-checks first-broken
+      previous-14 o f q = refuse g (ask (previous b k)) Held (rw (g .is-sound, there, f, q))
 
-      pub previous-16 : before k (areas g) ≡ none → held-from b 0 k (work-open (areas g)) ≡ false → Answers g (previous b k) (Refused Absent)
-      unfolding previous-checks first-broken previous-limit is-none
-      previous-16 f q = refuse g (previous b k) Absent (rw (g .is-sound, there, f, q))
+      pub previous-16 : before k (areas g) ≡ none → held-from b 0 k (work-open (areas g)) ≡ false → Answers g (ask (previous b k)) (Refused Absent)
+      unfolding request-checks question-checks previous-checks first-broken previous-limit is-none
+      previous-16 f q = refuse g (ask (previous b k)) Absent (rw (g .is-sound, there, f, q))
 
-      pub previous-0 : (key v : ℕ) → before k (areas g) ≡ some (entry key v) → held-from b key k (work-open (areas g)) ≡ false → Answers g (previous b k) (Pair key v)
-      unfolding outcome previous-limit
-      previous-0 key v f q = answer g (previous b k) (Pair key v) (previous-goes (areas g) d (g .is-sound) b k there (entry key v) f q)
+      pub previous-0 : (key v : ℕ) → before k (areas g) ≡ some (entry key v) → held-from b key k (work-open (areas g)) ≡ false → Answers g (ask (previous b k)) (Pair key v)
+      unfolding previous-limit
+      previous-0 key v f q = answer g (ask (previous b k)) (Pair key v) (previous-goes (areas g) d (g .is-sound) b k there (entry key v) f q)

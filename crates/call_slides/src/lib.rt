@@ -35,7 +35,7 @@ ghost use Rattle.def_layout.specs.Sizes.{most-slots};
 ghost use Rattle.def_layout.specs.Desks.{row-at};
 ghost use Rattle.def_model.specs.Fit.{found};
 ghost use Rattle.def_model.specs.Calls.{value-or};
-ghost use Rattle.def_model.specs.OnBytes as calls;
+ghost use Rattle.def_model.specs.CallNames as calls;
 ghost use Rattle.law_bytes.specs.AreaSizes.{HasSlots, HasAreas};
 ghost use Rattle.law_bytes.specs.DeskRows.{LowRows};
 ghost use Rattle.tree_lookup.specs.Answers.{value-of};

@@ -4,7 +4,7 @@ use mathlib.Core.Path.{_≡_, refl, ap, ap₂, sym, _∙_}
 use mathlib.Core.Logic.{_≢_}
 use mathlib.Core.Bool.{Bool, true, false}
 use native.Mathlib.Omega.{arith}
-use mathlib.Core.Option.{Option, none, some}
+use mathlib.Core.Option.{none, some}
 use mathlib.Core.List.{List}
 use lib.ListN.{length}
 use lib.Dec.{eqb, leb}
@@ -19,8 +19,10 @@ use Rattle.def_model.specs.declared.Answer.the-variants.{Done, Refused}
 use Rattle.def_model.specs.Answers.{first-broken}
 use Rattle.def_model.specs.Areas.{Areas}
 use Rattle.def_model.specs.Loading.{columns, keys-rise, loaded-count}
-use Rattle.def_model.specs.Calls.{load-checks, load-by, load-areas}
-use Rattle.def_model.specs.OnBytes.{Call, Lent, Result, load, lengths-ok, read-areas, outcome, call}
+use Rattle.def_model.specs.Calls.{load-checks}
+use Rattle.def_model.specs.OnBytes.{Call, Lent, Result, checks, start-checks, refused-desk, refused-work, refused, lengths-ok, read-areas, call}
+use Rattle.def_model.specs.CallNames.{load}
+use Rattle.law_areas.specs.Outcomes.{broken-refused}
 use Rattle.law_areas.specs.Working.{read-work-length}
 use Rattle.theory_load.specs.Checked.{load-kept}
 use Rattle.area_load.specs.Columns.{Columns}
@@ -89,8 +91,8 @@ module _ (ks vs wp sp wl sl : List ℕ) (lens : lengths-ok (lent wp sp wl sl) �
   first = judges (read-areas l) count
 
   pub load-refused : (d : Desk) (budget : ℕ) (r : Reply) → ok ≡ false → r .answer ≡ Refused why → r .desk ≡ empty-desk → Replies (load ks vs) l d budget r l
-  unfolding outcome load-areas load-by
-  load-refused d budget r e = left-with (load ks vs) wp sp wl sl d lens empty-desk (Refused why) budget r (ap (λ (o : Option Refusal). load-by o ks vs (read-areas l)) (first ∙ ap (λ b. pick b none (some why)) e))
+  unfolding checks start-checks refused refused-work refused-desk
+  load-refused d budget r e = left-with (load ks vs) wp sp wl sl d lens empty-desk (Refused why) budget r (broken-refused (load ks vs) (read-areas l) d why (first ∙ ap (λ b. pick b none (some why)) e))
 
   module _ (passes : ok ≡ true) where
     passed : first-broken (load-checks ks vs (read-areas l)) ≡ none

@@ -21,7 +21,7 @@ ghost use Rattle.def_base.specs.Tests.{any};
 ghost use Rattle.def_layout.specs.Pages.{map-bits};
 ghost use Rattle.def_layout.specs.Sizes.{page-size};
 ghost use Rattle.def_model.specs.Loading.{columns, keys-rise, loaded-count};
-ghost use Rattle.def_model.specs.OnBytes as calls;
+ghost use Rattle.def_model.specs.CallNames as calls;
 ghost use Rattle.area_lengths.specs.Lent.{Sized, at-entry, at-exit};
 ghost use Rattle.area_load.specs.Columns.{Columns};
 ghost use Rattle.area_format.specs.Call.{Linked};

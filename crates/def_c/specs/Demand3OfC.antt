@@ -5,8 +5,9 @@ use mathlib.Core.Bool.{true}
 use mathlib.Core.List.{List, [], _∷_, _++_}
 use lib.ListN.{length}
 use Rattle.def_layout.specs.Sizes.{desk-size}
-use Rattle.def_model.specs.OnBytes.{Call, Lent, restart, commit, lengths-ok}
-use Rattle.def_recovery.specs.Events.{result, is-format, of-32-bits}
+use Rattle.def_model.specs.OnBytes.{Start, start, Lent, lengths-ok}
+use Rattle.def_model.specs.CallNames.{restart, commit}
+use Rattle.def_recovery.specs.Events.{result, of-32-bits}
 use Rattle.def_recovery.specs.Demand3.{commit-stored, Recovers}
 use Rattle.def_c.specs.FromC.{values-size, answered, c-call}
 use Rattle.def_c.specs.EventsOfC.{CWorld, as-world, CEvent, ended, returns-0, c-happen-all, CAllAllowed, c-started}
@@ -32,5 +33,5 @@ pub record CRecovers (es : List CEvent) (w : CWorld) : Type 0 where
 -- For any list of calls, cuts and growth since the last formatting or loading that returned 0.
 unfoldable pub CDemand3 : Type 0
 CDemand3 =
-    (c : Call) (l : Lent) (desk values : List ℕ) → is-format c ≡ true → of-32-bits c ≡ true → c-call c l desk values .reason ≡ 0
-    → (es : List CEvent) → CAllAllowed es (c-started c l desk values) → CRecovers es (c-started c l desk values)
+    (s : Start) (l : Lent) (desk values : List ℕ) → of-32-bits (start s) ≡ true → c-call (start s) l desk values .reason ≡ 0
+    → (es : List CEvent) → CAllAllowed es (c-started s l desk values) → CRecovers es (c-started s l desk values)

@@ -11,7 +11,7 @@ use Rattle.def_layout.specs.Desks.{read-desk}
 use Rattle.def_layout.specs.Sizes.{desk-size}
 use Rattle.def_model.specs.declared.Answer.{Answer}
 use Rattle.def_model.specs.declared.Answer.the-variants.{Pair}
-use Rattle.def_model.specs.OnBytes.{Call, Lent, store-all-bytes}
+use Rattle.def_model.specs.OnBytes.{Call, Start, start, Lent, store-all-bytes}
 use Rattle.def_recovery.specs.Book.{Book, new-book, book-cut}
 use Rattle.def_recovery.specs.Events.{World, book-after, grow, is-format, is-restart, of-32-bits, first-slides}
 use Rattle.def_c.specs.FromC.{Returned, c-call, c-stores}
@@ -107,5 +107,5 @@ CAllAllowed [] w = Unit {0}
 CAllAllowed (e ∷ es) w = CAllowed e w × CAllAllowed es (c-happen e w)
 
 -- The register right after a formatting or loading that returned 0 (started).
-unfoldable pub c-started : Call → Lent → (desk values : List ℕ) → CWorld
-c-started c l desk values = let r = c-call c l desk values in record { lent = r .areas; desk = r .desk; book = new-book (first-slides c); since-cut = false }
+unfoldable pub c-started : Start → Lent → (desk values : List ℕ) → CWorld
+c-started s l desk values = let r = c-call (start s) l desk values in record { lent = r .areas; desk = r .desk; book = new-book (first-slides s); since-cut = false }

@@ -13,10 +13,9 @@ use Rattle.def_layout.specs.Pages.{Page, at, zero-page, node-at, map-page, firs
 use Rattle.def_layout.specs.PageBytes.{page}
 use Rattle.def_layout.specs.Records.{begin, insert, delete, commit, batch-row}
 use Rattle.def_layout.specs.RecordBytes.{empty}
-use Rattle.def_model.specs.declared.Refusal.{Refusal}
 use Rattle.def_model.specs.declared.Refusal.the-variants.{PageNumber, ZeroKey, ColumnsDiffer, NotRising, Unsound, NoBatch, EightOpen, Held, Present, Absent, SlotsShort, PagesShort, AbortStopped, NoMark}
 use Rattle.def_model.specs.declared.Answer.{Answer}
-use Rattle.def_model.specs.declared.Answer.the-variants.{Done, Number, Pair, Refused}
+use Rattle.def_model.specs.declared.Answer.the-variants.{Done, Number, Pair}
 use Rattle.def_base.specs.Tests.{any}
 use Rattle.def_model.specs.Fit.{found}
 use Rattle.def_model.specs.Links.{relinked}
@@ -28,7 +27,7 @@ use Rattle.def_model.specs.Batches.{Batch, find-batch, unmarked, is-reco
 use Rattle.def_model.specs.Pending.{held, held-between, held-from}
 use Rattle.def_model.specs.Undo.{return-run, abort-run}
 use Rattle.def_model.specs.Areas.{Side, Areas, Store, store-page, slot-stores, log-stores}
-use Rattle.def_model.specs.Answers.{Outcome, Check, check, first-broken, refuse}
+use Rattle.def_model.specs.Answers.{Outcome, Check, check}
 use Rattle.def_model.specs.Sound.{sound, work-pages, work-log, work-slots, work-open, update-has-slots, update-has-pages, begin-has-slots}
 
 -- ---- from the areas to a run of updates, and back
@@ -104,8 +103,8 @@ page-stores p (x ∷ xs) = store-page p x ∷ page-stores (suc p) xs
 unfoldable pub format-stores : List Page → ℕ → List Store
 format-stores pages slots = page-stores 0 pages ++ slot-stores 1 (replicate slots empty)
 
-unfoldable pub format-areas : Areas → Desk → Outcome
-format-areas a d =
+unfoldable pub format-areas : Areas → Outcome
+format-areas a =
     let pages = formatted-pages (length (a .work .pages)) in
     let slots = length (a .work .log) in
     record {
@@ -125,9 +124,8 @@ load-checks ks vs a =
     ∷ check (not (leb (suc (loaded-count (length ks))) (length (a .work .pages)))) PagesShort ∷ []
 
 -- "a fresh register from the columns, with an empty log, and writes it as format does"; "A refused loading gives an empty desk."
-unfoldable pub load-by : Option Refusal → (keys values : List ℕ) → Areas → Outcome
-load-by (some r) ks vs a = record { answer = Refused r; work = a .work; desk = empty-desk; stores = [] }
-load-by none ks vs a =
+unfoldable pub load-areas : (keys values : List ℕ) → Areas → Outcome
+load-areas ks vs a =
     let pages = loaded-pages (length (a .work .pages)) (columns ks vs) in
     let slots = length (a .work .log) in
     record {
@@ -137,9 +135,6 @@ load-by none ks vs a =
       stores = format-stores pages slots;
     }
 
-unfoldable pub load-areas : (keys values : List ℕ) → Areas → Desk → Outcome
-load-areas ks vs a d = load-by (first-broken (load-checks ks vs a)) ks vs a
-
 -- ---- begin
 
 unfoldable pub begin-checks : Areas → Desk → List Check
@@ -147,15 +142,11 @@ begin-checks a d =
     is-unsound a d ∷ check (leb most-open (length (work-open a))) EightOpen
     ∷ check (not (begin-has-slots (work-slots a) (work-log a) (work-open a))) SlotsShort ∷ []
 
-unfoldable pub begin-by : Option Refusal → Areas → Desk → Outcome
-begin-by (some r) a d = refuse r a d
-begin-by none a d = let n = suc (last-number (work-log a)) in kept-run (Number n) a (emit (batch-row begin n 0) (run-of a)) d
-
 -- 01: "Begin answers the new batch number."
 unfoldable pub begin-batch : Areas → Desk → Outcome
-begin-batch a d = begin-by (first-broken (begin-checks a d)) a d
+begin-batch a d = let n = suc (last-number (work-log a)) in kept-run (Number n) a (emit (batch-row begin n 0) (run-of a)) d
 
--- ---- fetch and next
+-- ---- fetch, next and previous
 
 unfoldable pub fetch-checks : ℕ → ℕ → Areas → Desk → List Check
 fetch-checks b k a d = is-unsound a d ∷ no-batch b a ∷ held-question b k a ∷ check (not (present k a)) Absent ∷ []
@@ -164,12 +155,8 @@ unfoldable pub value-or : Option ℕ → ℕ
 value-or none = 0
 value-or (some v) = v
 
-unfoldable pub fetch-by : Option Refusal → ℕ → Areas → Desk → Outcome
-fetch-by (some r) k a d = refuse r a d
-fetch-by none k a d = unchanged (Number (value-or (fetched k (work-pages a)))) a d
-
-unfoldable pub fetch-slide : ℕ → ℕ → Areas → Desk → Outcome
-fetch-slide b k a d = fetch-by (first-broken (fetch-checks b k a d)) k a d
+abbrev pub fetch-answer : ℕ → Areas → Answer
+fetch-answer k a = Number (value-or (fetched k (work-pages a)))
 
 -- 01: "a next, if another holds any key above the asked one up to the found one, or to top if none".
 unfoldable pub next-limit : Option Entry → ℕ
@@ -185,13 +172,6 @@ unfoldable pub next-answer : Option Entry → Answer
 next-answer none = Done
 next-answer (some e) = Pair (e .key) (e .val)
 
-unfoldable pub next-slide-by : Option Refusal → ℕ → Areas → Desk → Outcome
-next-slide-by (some r) k a d = refuse r a d
-next-slide-by none k a d = unchanged (next-answer (next-above k (work-pages a))) a d
-
-unfoldable pub next-slide : ℕ → ℕ → Areas → Desk → Outcome
-next-slide b k a d = next-slide-by (first-broken (next-checks b k a d)) k a d
-
 -- 02, U5: "previous", the mirror of next, with the same rule on held keys. 16 also means none below.
 abbrev pub before : ℕ → Areas → Option Entry
 before k a = previous-below k (work-pages a) (a .work .lefts)
@@ -203,13 +183,6 @@ previous-limit (some e) = e .key
 unfoldable pub previous-checks : ℕ → ℕ → Areas → Desk → List Check
 previous-checks b k a d =
     is-unsound a d ∷ no-batch b a ∷ check (held-from b (previous-limit (before k a)) k (work-open a)) Held ∷ check (is-none (before k a)) Absent ∷ []
-
-unfoldable pub previous-slide-by : Option Refusal → ℕ → Areas → Desk → Outcome
-previous-slide-by (some r) k a d = refuse r a d
-previous-slide-by none k a d = unchanged (next-answer (before k a)) a d
-
-unfoldable pub previous-slide : ℕ → ℕ → Areas → Desk → Outcome
-previous-slide b k a d = previous-slide-by (first-broken (previous-checks b k a d)) k a d
 
 -- ---- insert and delete
 
@@ -229,36 +202,24 @@ unfoldable pub insert-checks : ℕ → ℕ → Areas → Desk → List Check
 insert-checks b k a d =
     zero-key k ∷ is-unsound a d ∷ no-live-batch b a ∷ held-change b k a ∷ check (present k a) Present ∷ no-slots a ∷ no-pages a ∷ []
 
-unfoldable pub insert-by : Option Refusal → ℕ → ℕ → ℕ → Areas → Desk → Outcome
-insert-by (some r) b k v a d = refuse r a d
-insert-by none b k v a d = kept-run Done a (put-record insert b (last-record b a) k v (run-of a)) d
-
 unfoldable pub insert-slide : ℕ → ℕ → ℕ → Areas → Desk → Outcome
-insert-slide b k v a d = insert-by (first-broken (insert-checks b k a d)) b k v a d
+insert-slide b k v a d = kept-run Done a (put-record insert b (last-record b a) k v (run-of a)) d
 
 unfoldable pub delete-checks : ℕ → ℕ → Areas → Desk → List Check
 delete-checks b k a d =
     is-unsound a d ∷ no-live-batch b a ∷ held-change b k a ∷ check (not (present k a)) Absent ∷ no-slots a ∷ no-pages a ∷ []
 
-unfoldable pub delete-by : Option Refusal → ℕ → ℕ → Areas → Desk → Outcome
-delete-by (some r) b k a d = refuse r a d
-delete-by none b k a d = kept-run Done a (remove-record delete b (last-record b a) k (value-or (fetched k (work-pages a))) (run-of a)) d
-
 unfoldable pub delete-slide : ℕ → ℕ → Areas → Desk → Outcome
-delete-slide b k a d = delete-by (first-broken (delete-checks b k a d)) b k a d
+delete-slide b k a d = kept-run Done a (remove-record delete b (last-record b a) k (value-or (fetched k (work-pages a))) (run-of a)) d
 
 -- ---- commit and abort
 
 unfoldable pub commit-checks : ℕ → Areas → Desk → List Check
 commit-checks b a d = is-unsound a d ∷ no-live-batch b a ∷ []
 
-unfoldable pub commit-by : Option Refusal → ℕ → Areas → Desk → Outcome
-commit-by (some r) b a d = refuse r a d
-commit-by none b a d = stored-run Done a (emit (batch-row commit b (last-record b a)) (run-of a)) d []
-
 -- 01: "Commit logs and then stores every unstored record, in order."
 unfoldable pub commit-batch : ℕ → Areas → Desk → Outcome
-commit-batch b a d = commit-by (first-broken (commit-checks b a d)) b a d
+commit-batch b a d = stored-run Done a (emit (batch-row commit b (last-record b a)) (run-of a)) d []
 
 unfoldable pub aborted : Option Batch → Run → Run
 aborted none s = s
@@ -270,25 +231,17 @@ abort-of b a = aborted (find-batch b (work-open a)) (run-of a)
 unfoldable pub abort-checks : ℕ → Areas → Desk → List Check
 abort-checks b a d = is-unsound a d ∷ no-live-batch b a ∷ check (not (eqb (abort-of b a .stop) 0)) AbortStopped ∷ []
 
-unfoldable pub abort-by : Option Refusal → ℕ → Areas → Desk → Outcome
-abort-by (some r) b a d = refuse r a d
-abort-by none b a d = kept-run Done a (abort-of b a) d
-
 unfoldable pub abort-batch : ℕ → Areas → Desk → Outcome
-abort-batch b a d = abort-by (first-broken (abort-checks b a d)) b a d
+abort-batch b a d = kept-run Done a (abort-of b a) d
 
 -- ---- mark and return
 
 unfoldable pub mark-checks : ℕ → Areas → Desk → List Check
 mark-checks b a d = is-unsound a d ∷ no-batch b a ∷ []
 
-unfoldable pub latest-by : Option Refusal → ℕ → Areas → Desk → Outcome
-latest-by (some r) b a d = refuse r a d
-latest-by none b a d = unchanged (Number (last-record b a)) a d
-
 -- 02, U2: "ask for the number of its latest log record as a mark".
-unfoldable pub mark-batch : ℕ → Areas → Desk → Outcome
-mark-batch b a d = latest-by (first-broken (mark-checks b a d)) b a d
+abbrev pub mark-answer : ℕ → Areas → Answer
+mark-answer b a = Number (last-record b a)
 
 -- 20: "the mark is not the number of a record of that batch, checked after 12 and before 13".
 abbrev pub no-mark : ℕ → ℕ → Areas → Check
@@ -305,23 +258,15 @@ return-of b m a = returned m (find-batch b (work-open a)) (run-of a)
 unfoldable pub return-checks : ℕ → ℕ → Areas → Desk → List Check
 return-checks b m a d = is-unsound a d ∷ no-batch b a ∷ no-mark b m a ∷ check (not (eqb (return-of b m a .stop) 0)) AbortStopped ∷ []
 
-unfoldable pub return-by : Option Refusal → ℕ → ℕ → Areas → Desk → Outcome
-return-by (some r) b m a d = refuse r a d
-return-by none b m a d = kept-run Done a (return-of b m a) d
-
 -- "and later undo every pending update it made after that mark while staying open".
 unfoldable pub return-batch : ℕ → ℕ → Areas → Desk → Outcome
-return-batch b m a d = return-by (first-broken (return-checks b m a d)) b m a d
+return-batch b m a d = kept-run Done a (return-of b m a) d
 
 -- ---- write-out
 
 unfoldable pub write-out-checks : ℕ → Areas → Desk → List Check
 write-out-checks p a d = check (leb (length (a .work .pages)) p) PageNumber ∷ is-unsound a d ∷ []
 
-unfoldable pub write-out-by : Option Refusal → ℕ → Areas → Desk → Outcome
-write-out-by (some r) p a d = refuse r a d
-write-out-by none p a d = stored-run Done a (run-of a) d (store-page p (at (work-pages a) p) ∷ [])
-
 -- 01: "Write-out does the same, then stores one page." (Write-out flushes one page.)
 unfoldable pub write-out-page : ℕ → Areas → Desk → Outcome
-write-out-page p a d = write-out-by (first-broken (write-out-checks p a d)) p a d
+write-out-page p a d = stored-run Done a (run-of a) d (store-page p (at (work-pages a) p) ∷ [])

@@ -16,3 +16,4 @@ pub mod Calls
 pub mod Undo
 pub mod Restart
 pub mod OnBytes
+pub mod CallNames

@@ -9,14 +9,18 @@ use Rattle.def_layout.specs.Desks.{empty-desk}
 use Rattle.def_layout.specs.PageBytes.{Block, page-bytes, read-block, block-bytes, left-in, without-left, with-left}
 use Rattle.def_layout.specs.Sizes.{page-size, slot-size}
 use Rattle.def_layout.specs.RecordBytes.{Slot, read-slot, slot-bytes}
+use mathlib.Core.Option.{Option, none, some}
+use Rattle.def_model.specs.declared.Refusal.{Refusal}
 use Rattle.def_model.specs.declared.Refusal.the-variants.{Lengths}
 use Rattle.def_model.specs.declared.Answer.{Answer}
 use Rattle.def_model.specs.declared.Answer.the-variants.{Refused}
-use Rattle.def_model.specs.Areas.{Areas, Store, store-page, store-slot}
+use Rattle.def_model.specs.Areas.{Side, Areas, Store, store-page, store-slot, zero-side}
 use Rattle.def_model.specs.Log.{slot-of}
-use Rattle.def_model.specs.Answers.{Outcome}
-use Rattle.def_model.specs.Calls.{format-areas, load-areas, begin-batch, fetch-slide, next-slide, previous-slide, insert-slide, delete-slide, commit-batch, abort-batch, mark-batch, return-batch, write-out-page}
-use Rattle.def_model.specs.Restart.{restart-areas}
+use Rattle.def_model.specs.Lookup.{next-above}
+use Rattle.def_model.specs.Sound.{work-pages}
+use Rattle.def_model.specs.Answers.{Outcome, Check, first-broken}
+use Rattle.def_model.specs.Calls.{format-areas, load-checks, load-areas, begin-checks, begin-batch, unchanged, fetch-checks, fetch-answer, next-checks, next-answer, before, previous-checks, insert-checks, insert-slide, delete-checks, delete-slide, commit-checks, commit-batch, abort-checks, abort-batch, mark-checks, mark-answer, return-checks, return-batch, write-out-checks, write-out-page}
+use Rattle.def_model.specs.Restart.{restart-checks, restart-areas}
 
 -- 01: "The caller lends working pages, stable pages, a working log and a stable log."
 pub record Lent : Type 0 where
@@ -83,48 +87,109 @@ lengths-ok l =
 
 -- ---- every call
 
-pub data Call : Type 0 where
-  format begin restart : Call
-  load : (keys values : List ℕ) → Call
-  fetch next previous : ℕ → ℕ → Call
-  insert : ℕ → ℕ → ℕ → Call
-  delete : ℕ → ℕ → Call
-  commit abort write-out take-mark : ℕ → Call
-  return-to : ℕ → ℕ → Call
+-- Calls that build the areas anew, whatever they hold.
+pub data Start : Type 0 where
+  format : Start
+  load : (keys values : List ℕ) → Start
 
--- The typed areas' answer to a call.
-unfoldable pub outcome : Call → Areas → Desk → Outcome
-outcome format a d = format-areas a d
-outcome (load ks vs) a d = load-areas ks vs a d
-outcome begin a d = begin-batch a d
-outcome restart a d = restart-areas a d
-outcome (fetch b k) a d = fetch-slide b k a d
-outcome (next b k) a d = next-slide b k a d
-outcome (previous b k) a d = previous-slide b k a d
-outcome (insert b k v) a d = insert-slide b k v a d
-outcome (delete b k) a d = delete-slide b k a d
-outcome (commit b) a d = commit-batch b a d
-outcome (abort b) a d = abort-batch b a d
-outcome (write-out p) a d = write-out-page p a d
-outcome (take-mark b) a d = mark-batch b a d
-outcome (return-to b m) a d = return-batch b m a d
+-- Questions: they ask for sound areas and change nothing.
+pub data Question : Type 0 where
+  fetch next previous : (batch key : ℕ) → Question
+  take-mark : (batch : ℕ) → Question
+
+-- Calls that ask for sound areas: questions, and those that change something.
+pub data Request : Type 0 where
+  ask : Question → Request
+  begin : Request
+  insert : (batch key value : ℕ) → Request
+  delete : (batch key : ℕ) → Request
+  commit abort : (batch : ℕ) → Request
+  return-to : (batch mark : ℕ) → Request
+  write-out : (page : ℕ) → Request
+
+-- A call builds the areas anew, restarts from the stable ones, or asks for sound ones.
+pub data Call : Type 0 where
+  start : Start → Call
+  restart : Call
+  request : Request → Call
+
+-- ---- what each checks, and what it does where no check is broken
+
+unfoldable pub start-checks : Start → Areas → List Check
+start-checks format a = []
+start-checks (load ks vs) a = load-checks ks vs a
+
+unfoldable pub question-checks : Question → Areas → Desk → List Check
+question-checks (fetch b k) a d = fetch-checks b k a d
+question-checks (next b k) a d = next-checks b k a d
+question-checks (previous b k) a d = previous-checks b k a d
+question-checks (take-mark b) a d = mark-checks b a d
+
+unfoldable pub request-checks : Request → Areas → Desk → List Check
+request-checks (ask q) a d = question-checks q a d
+request-checks begin a d = begin-checks a d
+request-checks (insert b k v) a d = insert-checks b k a d
+request-checks (delete b k) a d = delete-checks b k a d
+request-checks (commit b) a d = commit-checks b a d
+request-checks (abort b) a d = abort-checks b a d
+request-checks (return-to b m) a d = return-checks b m a d
+request-checks (write-out p) a d = write-out-checks p a d
+
+unfoldable pub checks : Call → Areas → Desk → List Check
+checks (start s) a d = start-checks s a
+checks restart a d = restart-checks a
+checks (request q) a d = request-checks q a d
+
+unfoldable pub start-does : Start → Areas → Outcome
+start-does format a = format-areas a
+start-does (load ks vs) a = load-areas ks vs a
+
+unfoldable pub question-answer : Question → Areas → Answer
+question-answer (fetch b k) a = fetch-answer k a
+question-answer (next b k) a = next-answer (next-above k (work-pages a))
+question-answer (previous b k) a = next-answer (before k a)
+question-answer (take-mark b) a = mark-answer b a
+
+unfoldable pub request-does : Request → Areas → Desk → Outcome
+request-does (ask q) a d = unchanged (question-answer q a) a d
+request-does begin a d = begin-batch a d
+request-does (insert b k v) a d = insert-slide b k v a d
+request-does (delete b k) a d = delete-slide b k a d
+request-does (commit b) a d = commit-batch b a d
+request-does (abort b) a d = abort-batch b a d
+request-does (return-to b m) a d = return-batch b m a d
+request-does (write-out p) a d = write-out-page p a d
+
+unfoldable pub does : Call → Areas → Desk → Outcome
+does (start s) a d = start-does s a
+does restart a d = restart-areas a
+does (request q) a d = request-does q a d
+
+-- ---- what a refused one leaves
 
 -- 01: "a refused format or restart gives an empty desk"; 02, U3: "A refused loading gives an empty desk."
 unfoldable pub refused-desk : Call → Desk → Desk
-refused-desk format d = empty-desk
-refused-desk (load ks vs) d = empty-desk
-refused-desk begin d = d
+refused-desk (start s) d = empty-desk
 refused-desk restart d = empty-desk
-refused-desk (fetch b k) d = d
-refused-desk (next b k) d = d
-refused-desk (previous b k) d = d
-refused-desk (insert b k v) d = d
-refused-desk (delete b k) d = d
-refused-desk (commit b) d = d
-refused-desk (abort b) d = d
-refused-desk (write-out p) d = d
-refused-desk (take-mark b) d = d
-refused-desk (return-to b m) d = d
+refused-desk (request q) d = d
+
+-- 01: "A refusal .. changes nothing, except that restart's 3 to 18 zero the working areas".
+unfoldable pub refused-work : Call → Areas → Side
+refused-work (start s) a = a .work
+refused-work restart a = zero-side (length (a .work .pages)) (length (a .work .log))
+refused-work (request q) a = a .work
+
+unfoldable pub refused : Call → Refusal → Areas → Desk → Outcome
+refused c r a d = record { answer = Refused r; work = refused-work c a; desk = refused-desk c d; stores = [] }
+
+-- Refused by a broken check, or done where none is broken.
+unfoldable pub outcome-by : Option Refusal → Call → Areas → Desk → Outcome
+outcome-by (some r) c a d = refused c r a d
+outcome-by none c a d = does c a d
+
+-- The typed areas' answer to a call. 01: "Checks go in number order": the first broken one refuses it.
+unfoldable pub outcome : Call → Areas → Desk → Outcome
+outcome c a d = outcome-by (first-broken (checks c a d)) c a d
 
 -- What a call on bytes answers and leaves: the working areas, the desk, and its list of stores.
 pub record Result : Type 0 where

@@ -1,17 +1,13 @@
 -- Restart, from the stable areas alone.
 use Prim.Native.Nat.{ℕ, suc, _-_}
-use mathlib.Core.Option.{Option, none, some}
 use mathlib.Core.Bool.{not, _&&_}
 use mathlib.Core.List.{List, [], _∷_}
 use lib.ListN.{length}
 use lib.Dec.{eqb}
-use Rattle.def_layout.specs.declared.Desk.{Desk}
-use Rattle.def_layout.specs.Desks.{empty-desk}
 use Rattle.def_layout.specs.Pages.{Page}
 use Rattle.def_layout.specs.Records.{Rec}
-use Rattle.def_model.specs.declared.Refusal.{Refusal}
 use Rattle.def_model.specs.declared.Refusal.the-variants.{Layout, Log, Redo, Rules, SlotsShort, PagesShort}
-use Rattle.def_model.specs.declared.Answer.the-variants.{Pair, Refused}
+use Rattle.def_model.specs.declared.Answer.the-variants.{Pair}
 use Rattle.def_model.specs.Log.{last-number, slots-used, records-of}
 use Rattle.def_model.specs.Redo.{replay, redo-count, redo-fits}
 use Rattle.def_model.specs.TreeRules.{tree-ok}
@@ -19,8 +15,8 @@ use Rattle.def_model.specs.Update.{Run}
 use Rattle.def_model.specs.Batches.{open-batches, desk-of, pending-count}
 use Rattle.def_model.specs.Pending.{pending-ok}
 use Rattle.def_model.specs.Undo.{mark-all, end-idle, undo-all}
-use Rattle.def_model.specs.Areas.{Areas, pages-of, zero-side, log-stores}
-use Rattle.def_model.specs.Answers.{Outcome, Check, check, first-broken}
+use Rattle.def_model.specs.Areas.{Areas, pages-of, log-stores}
+use Rattle.def_model.specs.Answers.{Outcome, Check, check}
 use Rattle.def_model.specs.Sound.{layouts-ok, log-ok}
 use Rattle.def_model.specs.Calls.{run-side}
 
@@ -59,10 +55,9 @@ restart-checks a =
     ∷ check (not (tree-ok (redone-pages a) && pending-ok (redone-pages a) (open-batches (stable-log a)))) Rules
     ∷ check (eqb (restarted a .stop) 17) SlotsShort ∷ check (eqb (restarted a .stop) 18) PagesShort ∷ []
 
-unfoldable pub restart-by : Option Refusal → Areas → Outcome
-restart-by (some r) a =
-    record { answer = Refused r; work = zero-side (length (a .work .pages)) (length (a .work .log)); desk = empty-desk; stores = [] }
-restart-by none a =
+-- 01: "It reports the batches it ended and the page changes it applied, map changes included".
+unfoldable pub restart-areas : Areas → Outcome
+restart-areas a =
     let s = restarted a in
     record {
       answer = Pair (length (open-batches (stable-log a))) (redo-count 1 (stable-log a) (stable-pages a));
@@ -70,7 +65,3 @@ restart-by none a =
       desk = desk-of (s .log) (last-number (s .log));
       stores = log-stores (last-number (stable-log a)) (s .log);
     }
-
--- 01: "It reports the batches it ended and the page changes it applied, map changes included"; "restart's 3 to 18 zero the working areas".
-unfoldable pub restart-areas : Areas → Desk → Outcome
-restart-areas a d = restart-by (first-broken (restart-checks a)) a

@@ -1,6 +1,7 @@
 -- 01: the plain book of demand 3. "it has slides, each a key and a value, at first none, and a sheet for each open case."
 use Prim.Native.Nat.{ℕ}
 use mathlib.Core.Bool.{Bool}
+use mathlib.Core.Option.{Option, none, some}
 use mathlib.Core.List.{List, [], _∷_, _++_}
 use lib.Dec.{eqb, ltb}
 use Rattle.def_base.specs.Tests.{pick}
@@ -8,7 +9,7 @@ use Rattle.def_layout.specs.declared.Entry.{Entry}
 use Rattle.def_layout.specs.Entries.{insert-sorted, remove-key}
 use Rattle.def_model.specs.declared.Answer.{Answer}
 use Rattle.def_model.specs.Answers.{answer-numbers}
-use Rattle.def_model.specs.OnBytes.{Call, format, load, begin, restart, fetch, next, previous, insert, delete, commit, abort, write-out, take-mark, return-to}
+use Rattle.def_model.specs.OnBytes.{Call, start, restart, request, Request, ask, begin, insert, delete, commit, abort, write-out, return-to}
 
 -- A line on a sheet: a slide filed, or a key struck out.
 pub data BookLine : Type 0 where
@@ -90,35 +91,41 @@ unfoldable pub abort-sheets : Book → Book
 abort-sheets b = record { slides = b .slides; sheets = [] }
 
 -- A call that was not refused, its answer, and for an update the number of its record. "All else changes nothing".
+unfoldable pub book-request : Request → Answer → (number : ℕ) → Book → Book
+book-request begin a m b = open-sheet (answer-numbers a .first) b
+book-request (ask q) a m b = b
+book-request (insert n k v) a m b = write-line n m (file k v) b
+book-request (delete n k) a m b = write-line n m (strike k) b
+book-request (commit n) a m b = commit-sheet n b
+book-request (abort n) a m b = abort-sheet n b
+book-request (return-to n mark) a m b = return-sheet n mark b
+book-request (write-out p) a m b = b
+
 unfoldable pub book-call : Call → Answer → (number : ℕ) → Book → Book
-book-call format a m b = b
-book-call (load ks vs) a m b = b
-book-call begin a m b = open-sheet (answer-numbers a .first) b
+book-call (start s) a m b = b
 book-call restart a m b = abort-sheets b
-book-call (fetch n k) a m b = b
-book-call (next n k) a m b = b
-book-call (previous n k) a m b = b
-book-call (insert n k v) a m b = write-line n m (file k v) b
-book-call (delete n k) a m b = write-line n m (strike k) b
-book-call (commit n) a m b = commit-sheet n b
-book-call (abort n) a m b = abort-sheet n b
-book-call (write-out p) a m b = b
-book-call (take-mark n) a m b = b
-book-call (return-to n mark) a m b = return-sheet n mark b
+book-call (request q) a m b = book-request q a m b
+
+-- The batch that a call commits.
+unfoldable pub commits-request : Request → Option ℕ
+commits-request begin = none
+commits-request (ask q) = none
+commits-request (insert n k v) = none
+commits-request (delete n k) = none
+commits-request (commit n) = some n
+commits-request (abort n) = none
+commits-request (return-to n mark) = none
+commits-request (write-out p) = none
+
+unfoldable pub commits : Call → Option ℕ
+commits (start s) = none
+commits restart = none
+commits (request q) = commits-request q
 
 -- A call that was cut: "of a cut commit, whether its commit record was stored".
+unfoldable pub book-cut-by : Option ℕ → (stored : Bool) → Book → Book
+book-cut-by none stored b = b
+book-cut-by (some n) stored b = pick stored (commit-sheet n b) b
+
 unfoldable pub book-cut : Call → (stored : Bool) → Book → Book
-book-cut format stored b = b
-book-cut (load ks vs) stored b = b
-book-cut begin stored b = b
-book-cut restart stored b = b
-book-cut (fetch n k) stored b = b
-book-cut (next n k) stored b = b
-book-cut (previous n k) stored b = b
-book-cut (insert n k v) stored b = b
-book-cut (delete n k) stored b = b
-book-cut (commit n) stored b = pick stored (commit-sheet n b) b
-book-cut (abort n) stored b = b
-book-cut (write-out p) stored b = b
-book-cut (take-mark n) stored b = b
-book-cut (return-to n mark) stored b = b
+book-cut c stored b = book-cut-by (commits c) stored b

@@ -18,9 +18,9 @@ use Rattle.def_model.specs.Batches.{Batch, open-batches, pending-count}
 use Rattle.def_model.specs.Sound.{reserve, reserves-ok}
 use Rattle.def_model.specs.Areas.{Areas, pages-of}
 use Rattle.def_model.specs.Restart.{stable-log, stable-slots, redone, redone-pages, settle}
-use Rattle.def_model.specs.OnBytes
-use Rattle.def_model.specs.OnBytes.{Call, call, Lent, restart, lengths-ok, read-areas, read-work}
-use Rattle.def_recovery.specs.Events.{World, Event, ended, result, passes, happen-all, is-format, of-32-bits, AllAllowed, started}
+use Rattle.def_model.specs.CallNames
+use Rattle.def_model.specs.OnBytes.{Start, start, call, Lent, restart, lengths-ok, read-areas, read-work}
+use Rattle.def_recovery.specs.Events.{World, Event, ended, result, passes, happen-all, of-32-bits, AllAllowed, started}
 
 -- ---- the further restart, "given right lengths and not cut"
 
@@ -55,7 +55,7 @@ commit-stored n w = any (is-commit-of n) (stable-log (stored w))
 -- "those left by the cases whose commit record was stored. A case whose commit was reported is always among them."
 abbrev pub ReportedIsStored : List Event → World → Type 0
 ReportedIsStored es w =
-    (before later : List Event) (n : ℕ) → es ≡ before ++ ended (OnBytes.commit n) ∷ later → passes (OnBytes.commit n) (happen-all before w) ≡ true
+    (before later : List Event) (n : ℕ) → es ≡ before ++ ended (CallNames.commit n) ∷ later → passes (CallNames.commit n) (happen-all before w) ≡ true
     → commit-stored n (happen-all es w) ≡ true
 
 -- ---- want of places
@@ -116,4 +116,4 @@ pub record Recovers (es : List Event) (w : World) : Type 0 where
 -- For any list of calls, cuts and growth since the last finished formatting. 02, U3: "starts from a loaded register as well as from an empty one".
 unfoldable pub Demand3 : Type 0
 Demand3 =
-    (c : Call) (l : Lent) (d : Desk) → is-format c ≡ true → of-32-bits c ≡ true → passed (call c l d .answer) ≡ true → (es : List Event) → AllAllowed es (started c l d) → Recovers es (started c l d)
+    (s : Start) (l : Lent) (d : Desk) → of-32-bits (start s) ≡ true → passed (call (start s) l d .answer) ≡ true → (es : List Event) → AllAllowed es (started s l d) → Recovers es (started s l d)

@@ -14,7 +14,7 @@ use Rattle.def_layout.specs.Numbers.{zeros}
 use Rattle.def_model.specs.declared.Answer.{Answer}
 use Rattle.def_model.specs.Answers.{passed}
 use Rattle.def_model.specs.Loading.{columns}
-use Rattle.def_model.specs.OnBytes.{Call, format, load, begin, restart, fetch, next, previous, insert, delete, commit, abort, write-out, take-mark, return-to, Lent, Result, call, lent-after}
+use Rattle.def_model.specs.OnBytes.{Call, start, restart, request, Start, format, load, Question, fetch, next, previous, take-mark, Request, ask, begin, insert, delete, commit, abort, write-out, return-to, Lent, Result, call, lent-after}
 use Rattle.def_recovery.specs.Book.{Book, new-book, book-call, book-cut}
 
 -- What a cut may leave in the working areas and the desk: anything.
@@ -51,21 +51,20 @@ last-in n [] = 0
 last-in n (r ∷ rs) = pick (eqb n (r .batch)) (r .last) (last-in n rs)
 
 -- 02, U2: "each update's record number, which the desk then gives as the batch's last record": the desk after the call. No other call feeds one.
+unfoldable pub fed-request : Request → Desk → ℕ
+fed-request begin d = 0
+fed-request (ask q) d = 0
+fed-request (insert n k v) d = last-in n (d .rows)
+fed-request (delete n k) d = last-in n (d .rows)
+fed-request (commit n) d = 0
+fed-request (abort n) d = 0
+fed-request (return-to n mark) d = 0
+fed-request (write-out p) d = 0
+
 unfoldable pub fed : Call → Desk → ℕ
-fed format d = 0
-fed (load ks vs) d = 0
-fed begin d = 0
+fed (start s) d = 0
 fed restart d = 0
-fed (fetch n k) d = 0
-fed (next n k) d = 0
-fed (previous n k) d = 0
-fed (insert n k v) d = last-in n (d .rows)
-fed (delete n k) d = last-in n (d .rows)
-fed (commit n) d = 0
-fed (abort n) d = 0
-fed (write-out p) d = 0
-fed (take-mark n) d = 0
-fed (return-to n mark) d = 0
+fed (request q) d = fed-request q d
 
 unfoldable pub book-after : (passed : Bool) → Call → Answer → Desk → Book → Book
 book-after true c a d b = book-call c a (fed c d) b
@@ -124,56 +123,43 @@ happen-all (e ∷ es) w = happen-all es (happen e w)
 
 -- 02, U3: "a loading counts as a formatting".
 unfoldable pub is-format : Call → Bool
-is-format format = true
-is-format (load ks vs) = true
-is-format begin = false
+is-format (start s) = true
 is-format restart = false
-is-format (fetch n k) = false
-is-format (next n k) = false
-is-format (previous n k) = false
-is-format (insert n k v) = false
-is-format (delete n k) = false
-is-format (commit n) = false
-is-format (abort n) = false
-is-format (write-out p) = false
-is-format (take-mark n) = false
-is-format (return-to n m) = false
+is-format (request q) = false
 
 unfoldable pub is-restart : Call → Bool
-is-restart format = false
-is-restart (load ks vs) = false
-is-restart begin = false
+is-restart (start s) = false
 is-restart restart = true
-is-restart (fetch n k) = false
-is-restart (next n k) = false
-is-restart (previous n k) = false
-is-restart (insert n k v) = false
-is-restart (delete n k) = false
-is-restart (commit n) = false
-is-restart (abort n) = false
-is-restart (write-out p) = false
-is-restart (take-mark n) = false
-is-restart (return-to n m) = false
+is-restart (request q) = false
 
 -- 01: "Keys and values are 32-bit", and so is every number that a call is given.
 abbrev pub fits-32 : ℕ → Bool
 fits-32 n = leb n top
 
+unfoldable pub start-32 : Start → Bool
+start-32 format = true
+start-32 (load ks vs) = every fits-32 ks && every fits-32 vs
+
+unfoldable pub question-32 : Question → Bool
+question-32 (fetch n k) = fits-32 n && fits-32 k
+question-32 (next n k) = fits-32 n && fits-32 k
+question-32 (previous n k) = fits-32 n && fits-32 k
+question-32 (take-mark n) = fits-32 n
+
+unfoldable pub request-32 : Request → Bool
+request-32 (ask q) = question-32 q
+request-32 begin = true
+request-32 (insert n k v) = fits-32 n && (fits-32 k && fits-32 v)
+request-32 (delete n k) = fits-32 n && fits-32 k
+request-32 (commit n) = fits-32 n
+request-32 (abort n) = fits-32 n
+request-32 (return-to n m) = fits-32 n && fits-32 m
+request-32 (write-out p) = fits-32 p
+
 unfoldable pub of-32-bits : Call → Bool
-of-32-bits format = true
-of-32-bits (load ks vs) = every fits-32 ks && every fits-32 vs
-of-32-bits begin = true
+of-32-bits (start s) = start-32 s
 of-32-bits restart = true
-of-32-bits (fetch n k) = fits-32 n && fits-32 k
-of-32-bits (next n k) = fits-32 n && fits-32 k
-of-32-bits (previous n k) = fits-32 n && fits-32 k
-of-32-bits (insert n k v) = fits-32 n && (fits-32 k && fits-32 v)
-of-32-bits (delete n k) = fits-32 n && fits-32 k
-of-32-bits (commit n) = fits-32 n
-of-32-bits (abort n) = fits-32 n
-of-32-bits (write-out p) = fits-32 p
-of-32-bits (take-mark n) = fits-32 n
-of-32-bits (return-to n m) = fits-32 n && fits-32 m
+of-32-bits (request q) = request-32 q
 
 -- "since the last finished formatting": a formatting or loading among the calls is a refused one. "the first call after a cut to pass its checks is a
 -- restart, itself cut or not".
@@ -192,25 +178,13 @@ AllAllowed [] w = Unit {0}
 AllAllowed (e ∷ es) w = Allowed e w × AllAllowed es (happen e w)
 
 -- What a register holds at first: a formatted one nothing, a loaded one the columns.
-unfoldable pub first-slides : Call → List Entry
+unfoldable pub first-slides : Start → List Entry
 first-slides format = []
 first-slides (load ks vs) = columns ks vs
-first-slides begin = []
-first-slides restart = []
-first-slides (fetch n k) = []
-first-slides (next n k) = []
-first-slides (previous n k) = []
-first-slides (insert n k v) = []
-first-slides (delete n k) = []
-first-slides (commit n) = []
-first-slides (abort n) = []
-first-slides (write-out p) = []
-first-slides (take-mark n) = []
-first-slides (return-to n m) = []
 
 -- The register right after a finished formatting or loading of these areas.
-unfoldable pub started : Call → Lent → Desk → World
-started c l d = let r = call c l d in record { lent = lent-after (length (r .stores)) r l; desk = r .desk; book = new-book (first-slides c); since-cut = false }
+unfoldable pub started : Start → Lent → Desk → World
+started s l d = let r = call (start s) l d in record { lent = lent-after (length (r .stores)) r l; desk = r .desk; book = new-book (first-slides s); since-cut = false }
 
 abbrev pub formatted : Lent → Desk → World
 formatted l d = started format l d

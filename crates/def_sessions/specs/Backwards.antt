@@ -3,7 +3,8 @@ use Prim.Native.Nat.{ℕ, suc, _+_, _*_}
 use mathlib.Core.List.{List, [], _∷_, _++_, map}
 use lib.ListN.{replicate}
 use Rattle.def_layout.specs.Entries.{top}
-use Rattle.def_model.specs.OnBytes.{Call, begin, restart, next, previous, insert, delete, commit, abort, return-to, write-out}
+use Rattle.def_model.specs.OnBytes.{Call}
+use Rattle.def_model.specs.CallNames.{begin, restart, next, previous, insert, delete, commit, abort, return-to, write-out}
 use Rattle.def_sessions.specs.Play.{Session, Step, ask, forge-low-bits, See, page-left, page-right, page-kind-is, page-count, page-bytes-from, stored-bytes-from}
 use Rattle.def_sessions.specs.Table.{answers, refused, of-size, done, power-cut}
 use Rattle.def_sessions.specs.Imports.{loads, import}

@@ -15,8 +15,10 @@ use Rattle.def_model.specs.Batches.{find-batch}
 use Rattle.def_model.specs.Pending.{held}
 use Rattle.def_model.specs.Lookup.{fetched}
 use Rattle.def_model.specs.Sound.{sound, work-pages, work-open}
-use Rattle.def_model.specs.Calls.{formatted-pages, is-none, fetch-slide, fetch-by, fetch-checks}
-use Rattle.def_model.specs.OnBytes.{begin, fetch, next, outcome}
+use Rattle.def_model.specs.Calls.{formatted-pages, is-none, fetch-checks}
+use Rattle.def_model.specs.OnBytes
+use Rattle.def_model.specs.CallNames.{begin, fetch, next}
+use Rattle.def_model.specs.OnBytes.{checks, question-checks, request-checks, refused-work, refused-desk, outcome-by, outcome}
 use Rattle.def_sessions.specs.Play.{Machine, ask, new, ended, play, play-step, shows, comes-true, same-answers}
 use Rattle.def_sessions.specs.Compute.{computed}
 use Rattle.def_sessions.specs.Table.{any-key, rows, table, answers, refused, a-split, a-raise, a-merge, a-held-key, a-ninth, enough-slots, too-few-slots, too-few-pages, a-cut, a-lower, shared-left, shared-right, an-abort, a-redo, unstored-commit, stored-commit, console, next-held, next-held-between, steps-back, each-refusal, zero-key, three-trays, marks, split-stays, partly-back, two-open, three-open, redo-of-changes, two-inserts, begin-fits, begin-short, done}
@@ -53,7 +55,7 @@ unfolding begun computed
 nobody-holds k = refl
 
 absent : (k : ℕ) → outcome (fetch 1 k) (begun .areas) (begun .desk) ≡ refuse Absent (begun .areas) (begun .desk)
-unfolding outcome fetch-slide fetch-checks fetch-by first-broken found
+unfolding outcome outcome-by checks request-checks question-checks OnBytes.refused refused-work refused-desk fetch-checks first-broken found
 absent k = rw (begun-sound, begun-open, nobody-holds k, begun-pages, nothing-there k)
 
 then-next : Outcome → Bool

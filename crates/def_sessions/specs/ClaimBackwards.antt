@@ -2,7 +2,7 @@
 use mathlib.Core.Path.{_≡_, refl}
 use mathlib.Core.Bool.{true}
 use Rattle.def_base.specs.Tests.{every, and-both}
-use Rattle.def_model.specs.OnBytes.{abort, return-to}
+use Rattle.def_model.specs.CallNames.{abort, return-to}
 use Rattle.def_sessions.specs.Play.{comes-true}
 use Rattle.def_sessions.specs.Compute.{computed}
 use Rattle.def_sessions.specs.Backwards.{backwards, stepping, held-below, links-split, links-root, links-raised, links-merged, links-lowered, links-taken-back, links-loaded, links-three-levels, links-stored, links-restarted, links-forged, links-spare}

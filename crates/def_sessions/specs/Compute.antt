@@ -23,10 +23,10 @@ use Rattle.def_model.specs.Areas.{page-in, block-ok, blocks-ok, store, store-al
 use Rattle.def_model.specs.Answers.{refusal-number, answer-numbers, first-broken}
 use Rattle.def_model.specs.Sound.{layouts-ok, numbers-ok, log-ok, reserve, reserves-ok, update-has-slots, update-has-pages, begin-has-slots, desk-ok, same-slot, same-slots, stored-ok, sound}
 use Rattle.def_model.specs.Loading.{columns, keys-rise, groups, last-key, group-nodes, links, tree-count, load-levels, level-pages, levels-pages, loaded-pages}
-use Rattle.def_model.specs.Calls.{run-of, run-side, start-side, kept-run, stored-run, is-none, formatted-pages, page-stores, format-stores, format-areas, load-checks, load-by, load-areas, begin-checks, begin-by, begin-batch, fetch-checks, value-or, fetch-by, fetch-slide, next-limit, next-checks, next-answer, next-slide-by, next-slide, previous-limit, previous-checks, previous-slide-by, previous-slide, last-of, insert-checks, insert-by, insert-slide, delete-checks, delete-by, delete-slide, commit-checks, commit-by, commit-batch, aborted, abort-checks, abort-by, abort-batch, mark-checks, latest-by, mark-batch, returned, return-checks, return-by, return-batch, write-out-checks, write-out-by, write-out-page}
+use Rattle.def_model.specs.Calls.{run-of, run-side, start-side, kept-run, stored-run, is-none, formatted-pages, page-stores, format-stores, format-areas, load-checks, load-areas, begin-checks, begin-batch, fetch-checks, value-or, next-limit, next-checks, next-answer, previous-limit, previous-checks, last-of, insert-checks, insert-slide, delete-checks, delete-slide, commit-checks, commit-batch, aborted, abort-checks, abort-batch, mark-checks, returned, return-checks, return-batch, write-out-checks, write-out-page}
 use Rattle.def_model.specs.Undo.{undo-by, undo-line, undo-above, return-run, end-batch, abort-run, mark-by, mark-all, end-by, end-idle, newer, newest-due, with-lines, after-line, undo-newest, without-newest, undo-step, undo-all}
-use Rattle.def_model.specs.Restart.{redone-pages, redone, settle, restarted, restart-checks, restart-by, restart-areas}
-use Rattle.def_model.specs.OnBytes.{outcome}
+use Rattle.def_model.specs.Restart.{redone-pages, redone, settle, restarted, restart-checks, restart-areas}
+use Rattle.def_model.specs.OnBytes.{start-checks, question-checks, question-answer, request-checks, checks, start-does, request-does, does, refused-desk, refused-work, refused, outcome-by, outcome}
 use Rattle.def_sessions.specs.Play.{numbers, ended, cut-off, forged, with-work, low-bits, play-step, play, new, seen, same-answers, shows, comes-true, Session}
 
 unfoldable pub computed : Session → Bool
@@ -43,10 +43,10 @@ unfolding every any seek look insert-sorted remove-key same-entries ten-bits be3
     newest-is undoes nothing-pending chains chain-step chain-ok row-of desk-of pending-count holds held held-between held-from newest-on alternates lines-alternate
     agrees newest-agree apart pending-ok page-in block-ok blocks-ok store store-all store-some slot-stores log-stores refusal-number answer-numbers
     first-broken layouts-ok numbers-ok log-ok reserve reserves-ok update-has-slots update-has-pages begin-has-slots desk-ok same-slot same-slots stored-ok
-    sound run-of run-side start-side kept-run stored-run is-none formatted-pages page-stores format-stores format-areas columns keys-rise groups last-key group-nodes links tree-count load-levels level-pages levels-pages loaded-pages load-checks load-by load-areas begin-checks begin-by begin-batch
-    fetch-checks value-or fetch-by fetch-slide next-limit next-checks next-answer next-slide-by next-slide previous-limit previous-checks previous-slide-by previous-slide last-of insert-checks insert-by insert-slide
-    delete-checks delete-by delete-slide commit-checks commit-by commit-batch aborted abort-checks abort-by abort-batch mark-checks latest-by mark-batch returned return-checks return-by return-batch write-out-checks write-out-by
+    sound run-of run-side start-side kept-run stored-run is-none formatted-pages page-stores format-stores format-areas columns keys-rise groups last-key group-nodes links tree-count load-levels level-pages levels-pages loaded-pages load-checks load-areas begin-checks begin-batch
+    fetch-checks value-or next-limit next-checks next-answer previous-limit previous-checks last-of insert-checks insert-slide
+    delete-checks delete-slide commit-checks commit-batch aborted abort-checks abort-batch mark-checks returned return-checks return-batch write-out-checks
     write-out-page undo-by undo-line undo-above return-run end-batch abort-run mark-by mark-all end-by end-idle newer newest-due with-lines after-line undo-newest
-    without-newest undo-step undo-all redone-pages redone settle restarted restart-checks restart-by restart-areas outcome numbers ended cut-off forged with-work low-bits play-step
+    without-newest undo-step undo-all redone-pages redone settle restarted restart-checks restart-areas start-checks question-checks question-answer request-checks checks start-does request-does does refused-desk refused-work refused outcome-by outcome numbers ended cut-off forged with-work low-bits play-step
     play new seen same-answers shows comes-true
 computed s = comes-true s

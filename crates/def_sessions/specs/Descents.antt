@@ -7,7 +7,8 @@ use Rattle.def_layout.specs.declared.Entry.{Entry}
 use Rattle.def_layout.specs.Entries.{entry, top}
 use Rattle.def_layout.specs.Pages.{node-at, map-page}
 use Rattle.def_layout.specs.PageBytes.{page}
-use Rattle.def_model.specs.OnBytes.{Call, begin, restart, insert, delete}
+use Rattle.def_model.specs.OnBytes.{Call}
+use Rattle.def_model.specs.CallNames.{begin, restart, insert, delete}
 use Rattle.def_sessions.specs.Play.{Session, Step, ask, forge-page, See, page-keys, page-entries, page-right, page-kind-is, page-count, kinds-from}
 use Rattle.def_sessions.specs.Table.{answers, done, of-size}
 

@@ -3,8 +3,8 @@ use Prim.Native.Nat.{ℕ}
 use mathlib.Core.List.{List, [], _∷_}
 use Rattle.def_layout.specs.Records
 use Rattle.def_layout.specs.Records.{insert, undo-delete, commit, abort-mark, batch-row, data-row}
-use Rattle.def_model.specs.OnBytes
-use Rattle.def_model.specs.OnBytes.{restart, begin, fetch, next, previous, delete, abort}
+use Rattle.def_model.specs.CallNames
+use Rattle.def_model.specs.CallNames.{restart, begin, fetch, next, previous, delete, abort}
 use Rattle.def_sessions.specs.Play.{Session, ask}
 use Rattle.def_sessions.specs.Table.{answers, refused, of-size, done}
 use Rattle.def_sessions.specs.Damage.{begins, logs}
@@ -14,8 +14,8 @@ use Rattle.def_sessions.specs.Damage.{begins, logs}
 abbrev pub zero-filed : Session
 zero-filed =
     of-size 16 128
-    (begins 1 ∷ logs 2 (data-row insert 1 1 1 0 6) ∷ logs 3 (batch-row commit 1 2) ∷ ask restart ∷ ask begin ∷ ask (fetch 4 0) ∷ ask (next 4 0) ∷ ask (OnBytes.insert 4 0 6)
-    ∷ ask (delete 4 0) ∷ ask (fetch 4 0) ∷ ask (OnBytes.insert 4 0 6) ∷ ask (abort 4) ∷ ask begin ∷ ask (fetch 9 0) ∷ [])
+    (begins 1 ∷ logs 2 (data-row insert 1 1 1 0 6) ∷ logs 3 (batch-row commit 1 2) ∷ ask restart ∷ ask begin ∷ ask (fetch 4 0) ∷ ask (next 4 0) ∷ ask (CallNames.insert 4 0 6)
+    ∷ ask (delete 4 0) ∷ ask (fetch 4 0) ∷ ask (CallNames.insert 4 0 6) ∷ ask (abort 4) ∷ ask begin ∷ ask (fetch 9 0) ∷ [])
     ((0 ∷ 0 ∷ 1 ∷ []) ∷ answers 4 ∷ answers 6 ∷ refused 16 ∷ refused 7 ∷ done ∷ refused 16 ∷ refused 7 ∷ done ∷ answers 9 ∷ answers 6 ∷ []) []
 
 -- Such an entry was deleted, and the deletion undone, when the power failed: restart redoes all three.

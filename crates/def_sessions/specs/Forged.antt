@@ -7,7 +7,7 @@ use Rattle.def_layout.specs.Pages.{at}
 use Rattle.def_model.specs.Change.{with-lsn, with-entries}
 use Rattle.def_model.specs.Areas.{store-page, store}
 use Rattle.def_model.specs.Restart.{stable-pages}
-use Rattle.def_model.specs.OnBytes.{begin, restart, commit}
+use Rattle.def_model.specs.CallNames.{begin, restart, commit}
 use Rattle.def_sessions.specs.Play.{Machine, Step, ask, new, play, play-step}
 use Rattle.def_sessions.specs.Table.{inserts, deletes, power-cut}
 

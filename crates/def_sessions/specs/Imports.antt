@@ -4,7 +4,7 @@ use mathlib.Core.List.{List, [], _∷_, _++_}
 use lib.ListN.{replicate}
 use Rattle.def_layout.specs.Numbers.{tab}
 use Rattle.def_layout.specs.Entries.{entry, top}
-use Rattle.def_model.specs.OnBytes.{begin, load, restart, fetch, next, insert, delete, commit}
+use Rattle.def_model.specs.CallNames.{begin, load, restart, fetch, next, insert, delete, commit}
 use Rattle.def_sessions.specs.Play.{Session, Step, ask, cut, See, page-keys, page-entries, page-right, page-count, page-kind-is, page-bytes-from, kinds-from, slides}
 use Rattle.def_sessions.specs.Table.{answers, refused, of-size, done, power-cut}
 

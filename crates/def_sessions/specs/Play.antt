@@ -20,7 +20,8 @@ use Rattle.def_model.specs.Log.{slot-of}
 use Rattle.def_model.specs.Answers.{Outcome, Numbers, answer-numbers}
 use Rattle.def_model.specs.Sound.{work-pages, work-log}
 use Rattle.def_model.specs.TreeRules.{leaf-records}
-use Rattle.def_model.specs.OnBytes.{Call, format, outcome}
+use Rattle.def_model.specs.OnBytes.{Call, outcome}
+use Rattle.def_model.specs.CallNames.{format}
 
 -- A call that ends; one that is cut after so many of its stores, and leaves nothing of use in the working areas and the desk; or a stable page,
 -- or the slot of a log number, or the last 12 bits of a working page's first word, in whose place something else is put.

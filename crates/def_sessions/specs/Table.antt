@@ -3,7 +3,7 @@ use Prim.Native.Nat.{ℕ, _+_}
 use mathlib.Core.List.{List, [], _∷_, _++_, map}
 use lib.ListN.{replicate}
 use Rattle.def_layout.specs.Entries.{entry, top}
-use Rattle.def_model.specs.OnBytes.{begin, restart, fetch, next, previous, insert, delete, commit, abort, write-out, take-mark, return-to}
+use Rattle.def_model.specs.CallNames.{begin, restart, fetch, next, previous, insert, delete, commit, abort, write-out, take-mark, return-to}
 use Rattle.def_sessions.specs.Play.{Session, Step, ask, cut, See, page-keys, page-entries, page-right, page-left, page-kind-is, page-count, page-bytes-from, kinds-from, previous-from, slides}
 
 -- ---- answers: 0 or the refusal, and two values

@@ -16,7 +16,7 @@ use face_answers::second_of;
 ghost use mathlib.Core.Path.{_≡_};
 ghost use lib.ListN.{length};
 ghost use Rattle.def_layout.specs.Sizes.{desk-size};
-ghost use Rattle.def_model.specs.OnBytes as calls;
+ghost use Rattle.def_model.specs.CallNames as calls;
 ghost use Rattle.area_lengths.specs.Lent.{at-entry, at-exit};
 ghost use Rattle.def_c.specs.FromC.{returned, refused-values, c-call};
 ghost use Rattle.donzhikar.specs.Returned.{Asks, DeskLeft, Refuses, Gives};

@@ -9,7 +9,8 @@ use Rattle.io.specs.Counts.{Counts}
 use Rattle.def_base.specs.Tests.{eq-true, neq-false}
 use Rattle.def_layout.specs.declared.Desk.{Desk}
 use Rattle.def_layout.specs.Desks.{empty-desk}
-use Rattle.def_model.specs.OnBytes.{Lent, format}
+use Rattle.def_model.specs.OnBytes.{Lent}
+use Rattle.def_model.specs.CallNames.{format}
 use Rattle.call_reply.specs.declared.Reply.{Reply}
 use Rattle.call_reply.specs.Replies.{RepliesWhole}
 use Rattle.face_command.specs.declared.Line.{Line}

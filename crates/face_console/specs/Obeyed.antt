@@ -8,7 +8,8 @@ use Rattle.def_layout.specs.Desks.{empty-desk}
 use Rattle.def_layout.specs.Numbers.{zeros}
 use Rattle.def_model.specs.declared.Answer.{Answer}
 use Rattle.def_model.specs.declared.Answer.the-variants.{Done}
-use Rattle.def_model.specs.OnBytes.{Lent, Call, call, begin, insert, delete, fetch, next, commit, abort, write-out, restart, lent-after}
+use Rattle.def_model.specs.OnBytes.{Lent, Call, call, lent-after}
+use Rattle.def_model.specs.CallNames.{begin, insert, delete, fetch, next, commit, abort, write-out, restart}
 use Rattle.area_lengths.specs.Lent.{lent}
 use Rattle.call_reply.specs.declared.Reply.{Reply}
 use Rattle.call_reply.specs.Replies.{RepliesWhole}

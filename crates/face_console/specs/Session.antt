@@ -4,7 +4,8 @@ use mathlib.Core.List.{List, [], _∷_, _++_}
 use Rattle.def_layout.specs.Desks.{empty-desk}
 use Rattle.def_layout.specs.Numbers.{zeros}
 use Rattle.def_layout.specs.Sizes.{page-size, slot-size}
-use Rattle.def_model.specs.OnBytes.{Lent, format}
+use Rattle.def_model.specs.OnBytes.{Lent}
+use Rattle.def_model.specs.CallNames.{format}
 use Rattle.area_lengths.specs.Lent.{lent}
 use Rattle.face_command.specs.Commands.{command-text}
 use Rattle.face_text.specs.Input.{lines}

@@ -11,3 +11,4 @@ pub mod Storing
 pub mod Formatting
 pub mod AsPieces
 pub mod WorkPages
+pub mod Outcomes

@@ -7,8 +7,9 @@ use Rattle.def_layout.specs.declared.Desk.{Desk}
 use Rattle.def_layout.specs.Sizes.{page-size, slot-size}
 use Rattle.def_model.specs.declared.Refusal.the-variants.{Lengths}
 use Rattle.def_model.specs.declared.Answer.the-variants.{Done, Refused}
+use Rattle.def_model.specs.Answers.{first-broken}
 use Rattle.def_model.specs.Calls.{format-areas}
-use Rattle.def_model.specs.OnBytes.{Call, format, outcome, Lent, call, call-by, measures, lengths-ok}
+use Rattle.def_model.specs.OnBytes.{Call, start, format, checks, start-checks, does, start-does, outcome-by, outcome, Lent, call, call-by, measures, lengths-ok}
 
 -- Areas of so many bytes: working pages, stable pages, working log, stable log.
 abbrev pub Sized : ℕ → ℕ → ℕ → ℕ → Lent → Type 0
@@ -74,6 +75,6 @@ pub answers-1 : (l : Lent) → lengths-ok l ≡ false → (c : Call) (d : Desk) 
 unfolding call call-by
 answers-1 l e c d = ap (λ b. call-by b c l d .answer) e
 
-pub formats : (l : Lent) → lengths-ok l ≡ true → (d : Desk) → call format l d .answer ≡ Done
-unfolding call call-by outcome format-areas
-formats l e d = ap (λ b. call-by b format l d .answer) e
+pub formats : (l : Lent) → lengths-ok l ≡ true → (d : Desk) → call (start format) l d .answer ≡ Done
+unfolding call call-by outcome outcome-by checks start-checks does start-does format-areas first-broken
+formats l e d = ap (λ b. call-by b (start format) l d .answer) e

@@ -14,44 +14,22 @@ use Rattle.def_layout.specs.Sizes.{desk-size}
 use Rattle.def_model.specs.declared.Refusal.the-variants.{Lengths}
 use Rattle.def_model.specs.declared.Answer.the-variants.{Refused}
 use Rattle.def_model.specs.Answers.{answer-numbers}
-use Rattle.def_model.specs.OnBytes.{Call, format, load, begin, restart, fetch, next, previous, insert, delete, commit, abort, write-out, Lent, refused-desk, take-mark, return-to}
+use Rattle.def_model.specs.OnBytes.{Call, start, restart, request, Lent, refused-desk}
 use Rattle.def_c.specs.FromC.{Returned, values-size, value-bytes, sizes-ok, refused-desk-bytes, refused-values, returned-by, c-call}
 use Rattle.law_bytes.specs.Words.{Bytes}
 use Rattle.law_bytes.specs.DeskBytes.{desk-bytes-back}
 
 -- "a refused format or restart gives an empty desk", and so does a refused loading (02, U3): whether a call is one of the three.
 abbrev pub empties : Call → Bool
-empties format = true
-empties (load ks vs) = true
-empties begin = false
+empties (start s) = true
 empties restart = true
-empties (fetch b k) = false
-empties (next b k) = false
-empties (previous b k) = false
-empties (insert b k v) = false
-empties (delete b k) = false
-empties (commit b) = false
-empties (abort b) = false
-empties (write-out p) = false
-empties (take-mark b) = false
-empties (return-to b m) = false
+empties (request q) = false
 
 refused-by : (c : Call) (d : Desk) → refused-desk c d ≡ pick (empties c) empty-desk d
 unfolding refused-desk
-refused-by format d = refl
-refused-by (load ks vs) d = refl
-refused-by begin d = refl
+refused-by (start s) d = refl
 refused-by restart d = refl
-refused-by (fetch b k) d = refl
-refused-by (next b k) d = refl
-refused-by (previous b k) d = refl
-refused-by (insert b k v) d = refl
-refused-by (delete b k) d = refl
-refused-by (commit b) d = refl
-refused-by (abort b) d = refl
-refused-by (write-out p) d = refl
-refused-by (take-mark b) d = refl
-refused-by (return-to b m) d = refl
+refused-by (request q) d = refl
 
 -- ---- the desk
 

@@ -2,31 +2,32 @@
 use Prim.Native.Nat.{ℕ, suc, _+_, _-_, _*_, _≤_}
 use mathlib.Core.Path.{_≡_, refl, sym, ap, _∙_, subst}
 use mathlib.Core.Bool.{true, false}
-use mathlib.Core.Option.{Option, none, some}
+use mathlib.Core.Option.{none, some}
 use mathlib.Core.List.{List, []}
 use native.Mathlib.Omega.{arith}
 use lib.ListN.{length}
-use Rattle.def_base.specs.Tests.{clash, true-le}
+use Rattle.def_base.specs.Tests.{true-le}
 use Rattle.def_layout.specs.declared.Desk.{Desk}
 use Rattle.def_layout.specs.Entries.{top, look}
 use Rattle.def_layout.specs.Pages.{Page, map-bits}
 use Rattle.def_layout.specs.Records
 use Rattle.def_layout.specs.Records.{Rec, data-row}
-use Rattle.def_model.specs.declared.Refusal.{Refusal}
 use Rattle.def_model.specs.declared.Refusal.the-variants.{Unsound, NoBatch, Held, Present, Absent, SlotsShort, PagesShort}
 use Rattle.def_model.specs.declared.Answer.the-variants.{Done}
 use Rattle.def_model.specs.Lookup.{fetched}
 use Rattle.def_model.specs.TreeRules.{tree-ok, leaf-records, used-pages}
 use Rattle.def_model.specs.Update.{Run, put-record, remove-record}
 use Rattle.def_model.specs.Areas.{Areas}
-use Rattle.def_model.specs.Answers.{passed, check, first-broken}
+use Rattle.def_model.specs.Answers.{passed, check}
 use Rattle.def_model.specs.Batches.{Line, Batch, change-batch, find-batch, open-batches, unmarked, pending-count, tell, written, desk-of}
 use Rattle.def_model.specs.Pending.{held}
 use Rattle.def_model.specs.Sound.{sound, work-pages, work-log, work-slots, work-open, reserve, update-has-slots, update-has-pages}
-use Rattle.def_model.specs.Calls.{run-of, kept-run, value-or, present, last-of, zero-key, insert-checks, insert-by, insert-slide, delete-checks, delete-by, delete-slide}
-use Rattle.def_model.specs.OnBytes.{insert, delete, outcome}
-use Rattle.def_recovery.specs.Book.{file, strike, add-line, book-call, write-line}
-use Rattle.def_recovery.specs.Events.{last-in, fed}
+use Rattle.def_model.specs.Calls.{run-of, kept-run, value-or, present, last-of, zero-key, insert-checks, insert-slide, delete-checks, delete-slide}
+use Rattle.def_model.specs.OnBytes.{request, insert, delete, checks, request-checks, does, request-does, outcome}
+use Rattle.def_recovery.specs.Book.{file, strike, add-line, book-call, book-request, commits, commits-request, write-line}
+use Rattle.def_recovery.specs.Events.{last-in, fed, fed-request}
+use Rattle.def_model.specs.Fit.{found}
+use Rattle.theory_refusals.specs.Order.{passed-does}
 use Rattle.theory_tree.specs.Step.Steps.{by-insert, by-delete}
 use Rattle.theory_update.specs.Laws.{put-law, remove-law}
 use Rattle.theory_update.specs.Find.Fetching.{fetched-is}
@@ -106,8 +107,8 @@ module _ (o : Origin) (n m : ℕ) (most : n ≤ map-bits) (stable log : List Rec
   told-delete b k v page y t u f = told t (data-row Records.delete b (y .last) page k v) b y (record { number = u .number; adds = false; key = k; value = v }) u refl f refl
 
   inserted : (b k v : ℕ) (y : Batch) → k ≤ top → v ≤ top → find-batch b (work-open a) ≡ some y → y .marked ≡ false → held b k (work-open a) ≡ false → fetched k (work-pages a) ≡ none → Room
-      → insert-slide b k v a d ≡ kept-run Done a (put-record Records.insert b (y .last) k v (run-of a)) d → Passes o n m stable log (insert b k v) a d
-  unfolding outcome is-commit book-call fed kept-run
+      → outcome (request (insert b k v)) a d ≡ kept-run Done a (put-record Records.insert b (y .last) k v (run-of a)) d → Passes o n m stable log (request (insert b k v)) a d
+  unfolding is-commit commits commits-request found book-call book-request fed fed-request kept-run
   inserted b k v y kt vt f u hd ab rm is =
       let f′ : find-batch b (open-batches (run-of a .log)) ≡ some y = subst (λ z. find-batch b z ≡ some y) opens f in
       let hd′ : held b k (open-batches (run-of a .log)) ≡ false = subst (λ z. held b k z ≡ false) opens hd in
@@ -115,30 +116,27 @@ module _ (o : Origin) (n m : ℕ) (most : n ≤ map-bits) (stable log : List Rec
       let kept = put-law Records.insert b (y .last) k v (run-of a) (core-ready n most (run-of a) (slides-after o log) core) kt by-insert ab′ (rm .records) (rm .free) in
       let t = put-record Records.insert b (y .last) k v (run-of a) in
       let (page, up) = put-updated n most Records.insert b (y .last) k v (run-of a) (slides-after o log) core by-insert kt ab′ (λ p. insert-data n (run-of a) (slides-after o log) core b y f′ k v p u kt vt hd′ ab′) (kept .ready .goes) in
-      calm-passes o n m most stable log a d h x (insert b k v) t refl (up .trail) (put-within m Records.insert b (y .last) k v (run-of a) (run-within o n m most stable log a d h x))
-      (ap (λ o. o .work) is) (ap (λ o. o .stores) is) (told-insert b k v page y t up f′ (insert-slide b k v a d .desk) (ap (λ o. o .desk) is))
+      calm-passes o n m most stable log a d h x (request (insert b k v)) t refl (up .trail) (put-within m Records.insert b (y .last) k v (run-of a) (run-within o n m most stable log a d h x))
+      (ap (λ o. o .work) is) (ap (λ o. o .stores) is) (told-insert b k v page y t up f′ (outcome (request (insert b k v)) a d .desk) (ap (λ o. o .desk) is))
 
-  pub insert-passes : (b k v : ℕ) → k ≤ top → v ≤ top → passed (outcome (insert b k v) a d .answer) ≡ true → Passes o n m stable log (insert b k v) a d
-  unfolding outcome insert-slide insert-by insert-checks passed last-of
-  insert-passes b k v kt vt p = go (first-broken (insert-checks b k a d)) refl p
-    where
-      go : (z : Option Refusal) → first-broken (insert-checks b k a d) ≡ z → passed (insert-by z b k v a d .answer) ≡ true → Passes o n m stable log (insert b k v) a d
-      go (some r) e p = clash (sym p)
-      go none e p =
-          let (nz, e₀) = none-broken (zero-key k) _ e in
-          let (snd, e₁) = kept-check (sound a d) Unsound _ e₀ in
-          let (un, e₂) = kept-check (unmarked (find-batch b (work-open a))) NoBatch _ e₁ in
-          let (hd, e₃) = none-broken (check (held b k (work-open a)) Held) _ e₂ in
-          let (pr, e₄) = none-broken (check (present k a) Present) _ e₃ in
-          let (sl, e₅) = kept-check (update-has-slots (work-slots a) (work-log a) (work-open a)) SlotsShort _ e₄ in
-          let (pg, e₆) = kept-check (update-has-pages (work-pages a) (work-open a)) PagesShort [] e₅ in
-          let (y, f, u) = live-batch (find-batch b (work-open a)) un in
-          inserted b k v y kt vt f u hd (absent-of (fetched k (work-pages a)) pr) (room sl pg)
-          (ap (λ o. insert-by o b k v a d) e ∙ ap (λ o. kept-run Done a (put-record Records.insert b (last-of o) k v (run-of a)) d) f)
+  pub insert-passes : (b k v : ℕ) → k ≤ top → v ≤ top → passed (outcome (request (insert b k v)) a d .answer) ≡ true → Passes o n m stable log (request (insert b k v)) a d
+  unfolding checks request-checks does request-does insert-slide insert-checks last-of
+  insert-passes b k v kt vt p =
+      let (e, did) = passed-does (request (insert b k v)) a d p in
+      let (nz, e₀) = none-broken (zero-key k) _ e in
+      let (snd, e₁) = kept-check (sound a d) Unsound _ e₀ in
+      let (un, e₂) = kept-check (unmarked (find-batch b (work-open a))) NoBatch _ e₁ in
+      let (hd, e₃) = none-broken (check (held b k (work-open a)) Held) _ e₂ in
+      let (pr, e₄) = none-broken (check (present k a) Present) _ e₃ in
+      let (sl, e₅) = kept-check (update-has-slots (work-slots a) (work-log a) (work-open a)) SlotsShort _ e₄ in
+      let (pg, e₆) = kept-check (update-has-pages (work-pages a) (work-open a)) PagesShort [] e₅ in
+      let (y, f, u) = live-batch (find-batch b (work-open a)) un in
+      inserted b k v y kt vt f u hd (absent-of (fetched k (work-pages a)) pr) (room sl pg)
+      (did ∙ ap (λ o. kept-run Done a (put-record Records.insert b (last-of o) k v (run-of a)) d) f)
 
   deleted : (b k v : ℕ) (y : Batch) → k ≤ top → find-batch b (work-open a) ≡ some y → y .marked ≡ false → held b k (work-open a) ≡ false → fetched k (work-pages a) ≡ some v → Room
-      → delete-slide b k a d ≡ kept-run Done a (remove-record Records.delete b (y .last) k v (run-of a)) d → Passes o n m stable log (delete b k) a d
-  unfolding outcome is-commit book-call fed kept-run
+      → outcome (request (delete b k)) a d ≡ kept-run Done a (remove-record Records.delete b (y .last) k v (run-of a)) d → Passes o n m stable log (request (delete b k)) a d
+  unfolding is-commit commits commits-request found book-call book-request fed fed-request kept-run
   deleted b k v y kt f u hd th rm is =
       let f′ : find-batch b (open-batches (run-of a .log)) ≡ some y = subst (λ z. find-batch b z ≡ some y) opens f in
       let hd′ : held b k (open-batches (run-of a .log)) ≡ false = subst (λ z. held b k z ≡ false) opens hd in
@@ -146,23 +144,20 @@ module _ (o : Origin) (n m : ℕ) (most : n ≤ map-bits) (stable log : List Rec
       let kept = remove-law Records.delete b (y .last) k v v (run-of a) (core-ready n most (run-of a) (slides-after o log) core) kt by-delete th′ (rm .records) (rm .free) in
       let t = remove-record Records.delete b (y .last) k v (run-of a) in
       let (page, up) = remove-updated n most Records.delete b (y .last) k v v (run-of a) (slides-after o log) core by-delete kt th′ (λ p. delete-data n (run-of a) (slides-after o log) core b y f′ k v p u kt hd′ th′) (kept .ready .goes) in
-      calm-passes o n m most stable log a d h x (delete b k) t refl (up .trail) (remove-within m Records.delete b (y .last) k v (run-of a) (run-within o n m most stable log a d h x))
-      (ap (λ o. o .work) is) (ap (λ o. o .stores) is) (told-delete b k v page y t up f′ (delete-slide b k a d .desk) (ap (λ o. o .desk) is))
+      calm-passes o n m most stable log a d h x (request (delete b k)) t refl (up .trail) (remove-within m Records.delete b (y .last) k v (run-of a) (run-within o n m most stable log a d h x))
+      (ap (λ o. o .work) is) (ap (λ o. o .stores) is) (told-delete b k v page y t up f′ (outcome (request (delete b k)) a d .desk) (ap (λ o. o .desk) is))
 
-  pub delete-passes : (b k : ℕ) → k ≤ top → passed (outcome (delete b k) a d .answer) ≡ true → Passes o n m stable log (delete b k) a d
-  unfolding outcome delete-slide delete-by delete-checks passed last-of value-or
-  delete-passes b k kt p = go (first-broken (delete-checks b k a d)) refl p
-    where
-      go : (z : Option Refusal) → first-broken (delete-checks b k a d) ≡ z → passed (delete-by z b k a d .answer) ≡ true → Passes o n m stable log (delete b k) a d
-      go (some r) e p = clash (sym p)
-      go none e p =
-          let (snd, e₁) = kept-check (sound a d) Unsound _ e in
-          let (un, e₂) = kept-check (unmarked (find-batch b (work-open a))) NoBatch _ e₁ in
-          let (hd, e₃) = none-broken (check (held b k (work-open a)) Held) _ e₂ in
-          let (pr, e₄) = kept-check (present k a) Absent _ e₃ in
-          let (sl, e₅) = kept-check (update-has-slots (work-slots a) (work-log a) (work-open a)) SlotsShort _ e₄ in
-          let (pg, e₆) = kept-check (update-has-pages (work-pages a) (work-open a)) PagesShort [] e₅ in
-          let (y, f, u) = live-batch (find-batch b (work-open a)) un in
-          let (v, th) = present-of (fetched k (work-pages a)) pr in
-          deleted b k v y kt f u hd th (room sl pg)
-          (ap (λ o. delete-by o b k a d) e ∙ (λ i. kept-run Done a (remove-record Records.delete b (last-of (f i)) k (value-or (th i)) (run-of a)) d))
+  pub delete-passes : (b k : ℕ) → k ≤ top → passed (outcome (request (delete b k)) a d .answer) ≡ true → Passes o n m stable log (request (delete b k)) a d
+  unfolding checks request-checks does request-does delete-slide delete-checks last-of value-or
+  delete-passes b k kt p =
+      let (e, did) = passed-does (request (delete b k)) a d p in
+      let (snd, e₁) = kept-check (sound a d) Unsound _ e in
+      let (un, e₂) = kept-check (unmarked (find-batch b (work-open a))) NoBatch _ e₁ in
+      let (hd, e₃) = none-broken (check (held b k (work-open a)) Held) _ e₂ in
+      let (pr, e₄) = kept-check (present k a) Absent _ e₃ in
+      let (sl, e₅) = kept-check (update-has-slots (work-slots a) (work-log a) (work-open a)) SlotsShort _ e₄ in
+      let (pg, e₆) = kept-check (update-has-pages (work-pages a) (work-open a)) PagesShort [] e₅ in
+      let (y, f, u) = live-batch (find-batch b (work-open a)) un in
+      let (v, th) = present-of (fetched k (work-pages a)) pr in
+      deleted b k v y kt f u hd th (room sl pg)
+      (did ∙ (λ i. kept-run Done a (remove-record Records.delete b (last-of (f i)) k (value-or (th i)) (run-of a)) d))

@@ -11,6 +11,8 @@ use Rattle.def_model.specs.Areas.{Areas}
 use Rattle.def_model.specs.Answers.{Outcome}
 use Rattle.def_model.specs.Calls.{run-of, run-side}
 use Rattle.def_model.specs.Restart.{redone, restarted}
+use Rattle.def_model.specs.Fit.{found}
+use Rattle.def_recovery.specs.Book.{commits}
 use Rattle.def_model.specs.OnBytes.{Call, restart, outcome}
 use Rattle.theory_history.specs.Origin.{Origin}
 use Rattle.theory_history.specs.Start.{slides-after}
@@ -52,7 +54,7 @@ passes-ends o n m most stable log a d h x c p = (
 )
 
 pub restart-ends : (o : Origin) (n m : ℕ) (least : o .least ≤ n) (most : n ≤ map-bits) (log : List Rec) (h : History o n log) (a : Areas) (d : Desk) → Image o n m log (a .stable) → restarted a .stop ≡ 0 → (e : Ends o n m log log restart (outcome restart a d)) × (e .run ≡ restarted a)
-unfolding redone is-commit
+unfolding redone is-commit commits found
 restart-ends o n m least most log h a d i z =
     let f = finished o n m least most log h a d i z in
     let x = redone-standing o n m least most log h a i in

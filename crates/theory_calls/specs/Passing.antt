@@ -9,12 +9,13 @@ use Rattle.def_layout.specs.declared.Entry.{Entry}
 use Rattle.def_layout.specs.declared.Desk.{Desk}
 use Rattle.def_layout.specs.Pages.{at}
 use Rattle.def_layout.specs.Records.{Rec}
+use Rattle.def_model.specs.Fit.{found}
 use Rattle.def_model.specs.Update.{Run, emit}
 use Rattle.def_model.specs.Answers.{Outcome}
 use Rattle.def_model.specs.Areas.{Areas, Store, store-page, log-stores}
 use Rattle.def_model.specs.Calls.{run-of, run-side}
-use Rattle.def_model.specs.OnBytes.{Call, format, begin, restart, fetch, next, previous, insert, delete, commit, abort, write-out, outcome, take-mark, return-to, load}
-use Rattle.def_recovery.specs.Book.{Book, book-call}
+use Rattle.def_model.specs.OnBytes.{Call, request, commit, outcome}
+use Rattle.def_recovery.specs.Book.{Book, book-call, commits}
 use Rattle.def_recovery.specs.Events.{fed}
 use Rattle.def_recovery.specs.Demand3.{is-commit-of}
 use Rattle.theory_update.specs.Run.Way.{written-by, emit-goes}
@@ -26,20 +27,7 @@ use Rattle.theory_history.specs.History.{Standing}
 use Rattle.theory_calls.specs.Stories.{story}
 
 unfoldable pub is-commit : Call → Bool
-is-commit format = false
-is-commit (load ks vs) = false
-is-commit begin = false
-is-commit restart = false
-is-commit (fetch n k) = false
-is-commit (next n k) = false
-is-commit (previous n k) = false
-is-commit (insert n k v) = false
-is-commit (delete n k) = false
-is-commit (commit n) = true
-is-commit (abort n) = false
-is-commit (write-out p) = false
-is-commit (take-mark n) = false
-is-commit (return-to n m) = false
+is-commit c = found (commits c)
 
 -- The book after a call that passed, fed as its desk then says.
 abbrev pub book-of : Call → Outcome → Book → Book
@@ -52,7 +40,7 @@ Fixed o log more = (a b : List Rec) → more ≡ a ++ b → slides-after o (log 
 -- From a run to a later one: records that leave the slides, or one commit.
 pub data Walk (sl : List Entry) (s : Run) : Run → Type 0 where
   calm : {t : Run} → Trail s sl t sl → Walk sl s t
-  commits : {sl′ : List Entry} {r : Rec} → NextRecord s sl r sl′ → Walk sl s (written-by r s)
+  by-commit-record : {sl′ : List Entry} {r : Rec} → NextRecord s sl r sl′ → Walk sl s (written-by r s)
 
 -- What is stored: nothing; every unstored record; or these and then one page.
 pub data Stored (n : ℕ) (stable : List Rec) (t : Run) : List Store → Type 0 where
@@ -63,7 +51,7 @@ pub data Stored (n : ℕ) (stable : List Rec) (t : Run) : List Store → Type 0 
 -- What follows the log: records that leave the slides; or, of a commit, which stores all, its own record.
 pub data Follows (o : Origin) (stable : List Rec) (c : Call) (log : List Rec) (t : Run) (stores : List Store) : Type 0 where
   quietly : (more : List Rec) → is-commit c ≡ false → t .log ≡ log ++ more → Fixed o log more → Follows o stable c log t stores
-  by-commit : (b : ℕ) (r : Rec) → c ≡ commit b → is-commit-of b r ≡ true → t .log ≡ log ++ r ∷ [] → stores ≡ log-stores (length stable) (t .log) → Follows o stable c log t stores
+  by-commit : (b : ℕ) (r : Rec) → c ≡ request (commit b) → is-commit-of b r ≡ true → t .log ≡ log ++ r ∷ [] → stores ≡ log-stores (length stable) (t .log) → Follows o stable c log t stores
 
 -- A call on working areas that hold `log` and stable ones that hold `stable`.
 pub record Passes (o : Origin) (n m : ℕ) (stable log : List Rec) (c : Call) (a : Areas) (d : Desk) : Type 0 where

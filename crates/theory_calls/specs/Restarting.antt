@@ -22,8 +22,8 @@ use Rattle.def_model.specs.Areas.{Areas, log-stores}
 use Rattle.def_model.specs.Answers.{Check, check, first-broken, passed, answer-numbers, refusal-number}
 use Rattle.def_model.specs.Sound.{layouts-ok, log-ok}
 use Rattle.def_model.specs.Calls.{run-side}
-use Rattle.def_model.specs.Restart.{stable-log, stable-pages, redone, redone-pages, restarted, restart-checks, restart-by, restart-areas}
-use Rattle.def_model.specs.OnBytes.{restart, outcome}
+use Rattle.def_model.specs.Restart.{stable-log, stable-pages, redone, redone-pages, restarted, restart-checks, restart-areas}
+use Rattle.def_model.specs.OnBytes.{restart, checks, does, refused, outcome}
 use Rattle.def_recovery.specs.Book.{Book, book-call, abort-sheets}
 use Rattle.theory_ledger.specs.Settles.{Settles, settled}
 use Rattle.theory_room.specs.Restarting.{restarted-cases, restarted-within}
@@ -34,6 +34,7 @@ use Rattle.theory_history.specs.Settling.{settle-trail}
 use Rattle.theory_history.specs.History.{History, Standing, trail-standing}
 use Rattle.theory_history.specs.Redoing.{Image, image-layouts, image-log, image-redo-fits, image-tree, image-pending, redone-standing, stable-log-is}
 use Rattle.law_areas.specs.Typed.{log-area-length}
+use Rattle.law_areas.specs.Outcomes.{broken-refused, unbroken-does}
 use Rattle.theory_calls.specs.Stories.{story, sheets-of}
 use Rattle.theory_calls.specs.Passing.{book-of}
 
@@ -61,22 +62,22 @@ module _ (o : Origin) (n m : ℕ) (least : o .least ≤ n) (most : n ≤ map-bit
 
   -- The number that it answers is why its run stopped.
   pub restart-reason : answer-numbers (outcome restart a d .answer) .reason ≡ restarted a .stop
-  unfolding outcome restart-areas restart-by answer-numbers refusal-number
+  unfolding checks does refused restart-areas answer-numbers refusal-number
   restart-reason = go (restarted-cases a)
     where
-      go : (restarted a .stop ≡ 0) ⊎ ((restarted a .stop ≡ 17) ⊎ (restarted a .stop ≡ 18)) → answer-numbers (restart-by (first-broken (restart-checks a)) a .answer) .reason ≡ restarted a .stop
-      go (inl e) = ap (λ o. answer-numbers (restart-by o a .answer) .reason) (restart-refusal .0 e) ∙ sym e
-      go (inr (inl e)) = ap (λ o. answer-numbers (restart-by o a .answer) .reason) (restart-refusal .1 e) ∙ sym e
-      go (inr (inr e)) = ap (λ o. answer-numbers (restart-by o a .answer) .reason) (restart-refusal .2 e) ∙ sym e
+      go : (restarted a .stop ≡ 0) ⊎ ((restarted a .stop ≡ 17) ⊎ (restarted a .stop ≡ 18)) → answer-numbers (outcome restart a d .answer) .reason ≡ restarted a .stop
+      go (inl e) = ap (λ o. answer-numbers (o .answer) .reason) (unbroken-does restart a d (restart-refusal .0 e)) ∙ sym e
+      go (inr (inl e)) = ap (λ o. answer-numbers (o .answer) .reason) (broken-refused restart a d SlotsShort (restart-refusal .1 e)) ∙ sym e
+      go (inr (inr e)) = ap (λ o. answer-numbers (o .answer) .reason) (broken-refused restart a d PagesShort (restart-refusal .2 e)) ∙ sym e
 
   pub passed-stop : passed (outcome restart a d .answer) ≡ true → restarted a .stop ≡ 0
-  unfolding outcome restart-areas restart-by passed
+  unfolding checks refused passed
   passed-stop p = go (restarted-cases a)
     where
       go : (restarted a .stop ≡ 0) ⊎ ((restarted a .stop ≡ 17) ⊎ (restarted a .stop ≡ 18)) → restarted a .stop ≡ 0
       go (inl e) = e
-      go (inr (inl e)) = clash (sym p ∙ ap (λ o. passed (restart-by o a .answer)) (restart-refusal .1 e))
-      go (inr (inr e)) = clash (sym p ∙ ap (λ o. passed (restart-by o a .answer)) (restart-refusal .2 e))
+      go (inr (inl e)) = clash (sym p ∙ ap (λ o. passed (o .answer)) (broken-refused restart a d SlotsShort (restart-refusal .1 e)))
+      go (inr (inr e)) = clash (sym p ∙ ap (λ o. passed (o .answer)) (broken-refused restart a d PagesShort (restart-refusal .2 e)))
 
   -- Where it finishes.
   pub record Finished : Type 0 where
@@ -99,16 +100,16 @@ module _ (o : Origin) (n m : ℕ) (least : o .least ≤ n) (most : n ≤ map-bit
       }
 
   pub restart-work : restarted a .stop ≡ 0 → outcome restart a d .work ≡ run-side m (restarted a)
-  unfolding outcome restart-areas restart-by
-  restart-work z = ap (λ o. restart-by o a .work) (restart-refusal .0 z) ∙ ap (λ k. run-side k (restarted a)) (ap length (i .logged) ∙ log-area-length m log (i .fits))
+  unfolding checks does restart-areas
+  restart-work z = ap (λ o. o .work) (unbroken-does restart a d (restart-refusal .0 z)) ∙ ap (λ k. run-side k (restarted a)) (ap length (i .logged) ∙ log-area-length m log (i .fits))
 
   pub restart-stores : restarted a .stop ≡ 0 → outcome restart a d .stores ≡ log-stores (length log) (restarted a .log)
-  unfolding outcome restart-areas restart-by
-  restart-stores z = ap (λ o. restart-by o a .stores) (restart-refusal .0 z) ∙ ap (λ l. log-stores (length l) (restarted a .log)) (stable-log-is o n m least most log h a i)
+  unfolding checks does restart-areas
+  restart-stores z = ap (λ o. o .stores) (unbroken-does restart a d (restart-refusal .0 z)) ∙ ap (λ l. log-stores (length l) (restarted a .log)) (stable-log-is o n m least most log h a i)
 
   pub restart-desk : restarted a .stop ≡ 0 → outcome restart a d .desk ≡ desk-of (restarted a .log) (length (restarted a .log))
-  unfolding outcome restart-areas restart-by
-  restart-desk z = ap (λ o. restart-by o a .desk) (restart-refusal .0 z)
+  unfolding checks does restart-areas
+  restart-desk z = ap (λ o. o .desk) (unbroken-does restart a d (restart-refusal .0 z))
 
   pub restart-within : length (restarted a .log) ≤ m
   restart-within = let e = ap length (i .logged) ∙ log-area-length m log (i .fits) in let l = restarted-within a in omega arith

@@ -1,6 +1,6 @@
 -- A LOADING THAT IS NOT REFUSED makes an origin of the columns' records, for the pages that it was lent.
 use Prim.Native.Nat.{ℕ, suc, _≤_}
-use mathlib.Core.Path.{_≡_, sym, _∙_, subst}
+use mathlib.Core.Path.{_≡_, sym, subst}
 use mathlib.Core.Bool.{true}
 use mathlib.Core.List.{List, []}
 use native.Mathlib.Omega.{arith}
@@ -17,9 +17,9 @@ use Rattle.def_model.specs.Answers.{check, first-broken, passed}
 use Rattle.def_model.specs.Areas.{Areas}
 use Rattle.def_model.specs.Loading.{columns, keys-rise, loaded-count, loaded-pages}
 use Rattle.def_model.specs.Calls.{load-checks}
-use Rattle.def_model.specs.OnBytes.{load, outcome}
-use Rattle.def_recovery.specs.Events.{of-32-bits}
-use Rattle.theory_refusals.specs.Order.{checks, passed-none, first-refused}
+use Rattle.def_model.specs.OnBytes.{start, load, checks, start-checks, outcome}
+use Rattle.def_recovery.specs.Events.{of-32-bits, start-32}
+use Rattle.theory_refusals.specs.Order.{passed-does}
 use Rattle.theory_history.specs.Origin.{Origin, origin-pages}
 use Rattle.theory_calls.specs.Checks.{none-broken, kept-check}
 use Rattle.theory_load.specs.LoadedOrigin.{loaded-origin, loaded-slides, loaded-least, loaded-is}
@@ -48,14 +48,14 @@ load-kept ks vs a e =
     let (e₄, q₄) = kept-check (leb (suc (loaded-count (length ks))) n) PagesShort [] q₃ in
     record { same = true-eq (length ks) (length vs) e₁; rise = e₃; enough = true-le (suc (loaded-count (length ks))) n e₄ }
 
-module _ (ks vs : List ℕ) (a : Areas) (d : Desk) (p : passed (outcome (load ks vs) a d .answer) ≡ true) where
+module _ (ks vs : List ℕ) (a : Areas) (d : Desk) (p : passed (outcome (start (load ks vs)) a d .answer) ≡ true) where
   -- None of its checks is broken.
   pub load-passes : first-broken (load-checks ks vs a) ≡ none
-  unfolding checks
-  load-passes = sym (first-refused (load ks vs) a d) ∙ passed-none (outcome (load ks vs) a d .answer) p
+  unfolding checks start-checks
+  load-passes = passed-does (start (load ks vs)) a d p .0
 
-  pub load-starts : of-32-bits (load ks vs) ≡ true → length (a .work .pages) ≤ map-bits → Starts (columns ks vs) (length (a .work .pages))
-  unfolding of-32-bits
+  pub load-starts : of-32-bits (start (load ks vs)) ≡ true → length (a .work .pages) ≤ map-bits → Starts (columns ks vs) (length (a .work .pages))
+  unfolding of-32-bits start-32
   load-starts fits most =
       let n = length (a .work .pages) in
       let es = columns ks vs in

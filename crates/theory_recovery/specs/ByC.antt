@@ -16,10 +16,10 @@ use Rattle.def_model.specs.declared.Refusal.{Refusal}
 use Rattle.def_model.specs.declared.Answer.{Answer}
 use Rattle.def_model.specs.Answers.{answer-numbers, passed, first-broken}
 use Rattle.def_model.specs.Areas.{Areas}
-use Rattle.def_model.specs.Calls.{begin-by, begin-batch, begin-checks, kept-run}
-use Rattle.def_model.specs.OnBytes.{Call, format, begin, restart, fetch, next, previous, insert, delete, commit, abort, write-out, Lent, lengths-ok, read-areas, outcome, call-by, call, lent-after, take-mark, return-to, load}
-use Rattle.def_recovery.specs.Book.{Book, file, strike, open-sheet, write-line, book-call}
-use Rattle.def_recovery.specs.Events.{World, Event, result, passes, last-in, fed, is-format, is-restart, book-after, end-call, cut-call, grow, happen, happen-all}
+use Rattle.def_model.specs.Calls.{begin-batch, begin-checks, kept-run}
+use Rattle.def_model.specs.OnBytes.{Call, start, restart, request, ask, begin, insert, delete, commit, abort, write-out, return-to, Lent, lengths-ok, read-areas, checks, request-checks, does, request-does, refused, outcome-by, outcome, call-by, call, lent-after}
+use Rattle.def_recovery.specs.Book.{book-request, Book, file, strike, open-sheet, write-line, book-call}
+use Rattle.def_recovery.specs.Events.{World, Event, result, passes, last-in, fed, fed-request, book-after, end-call, cut-call, grow, happen, happen-all}
 use Rattle.def_recovery.specs.Events as typed
 use Rattle.def_c.specs.FromC.{values-size, value-bytes, areas-left, answered, sizes-ok, returned-by, c-call, c-stores-by, c-stores}
 use Rattle.def_c.specs.EventsOfC.{CWorld, as-world, CRubble, CEvent, ended, cut, grown, returns, returns-0, read-values, after-return, cut-c-call, c-happen, c-happen-all}
@@ -35,22 +35,22 @@ use Rattle.theory_recovery.specs.DesksFit.{call-desk-fits, desk-read-bac
 -- ---- the answer: returned, and read from its bytes
 
 -- The number that begin answers has 32 bits.
-begin-by-fits : (o : Option Refusal) (a : Areas) (d : Desk) → suc (length (a .work .log)) < 2 ^ 32 → answer-numbers (begin-by o a d .answer) .first < 2 ^ 32
-unfolding begin-by kept-run answer-numbers
+begin-by-fits : (o : Option Refusal) (a : Areas) (d : Desk) → suc (length (a .work .log)) < 2 ^ 32 → answer-numbers (outcome-by o (request begin) a d .answer) .first < 2 ^ 32
+unfolding outcome-by refused does request-does begin-batch kept-run answer-numbers
 begin-by-fits (some r) a d h = omega arith
 begin-by-fits none a d h = let l = length-records-of (a .work .log) in omega arith
 
-begin-fits : (l : Lent) (d : Desk) → answer-numbers (call begin l d .answer) .first < 2 ^ 32
-unfolding call call-by outcome begin-batch read-areas answer-numbers
+begin-fits : (l : Lent) (d : Desk) → answer-numbers (call (request begin) l d .answer) .first < 2 ^ 32
+unfolding call call-by outcome checks request-checks read-areas answer-numbers
 begin-fits l d = go (case (lengths-ok l))
   where
-    go : Case (lengths-ok l) → answer-numbers (call begin l d .answer) .first < 2 ^ 32
-    go (no! e) = subst (λ b. answer-numbers (call-by b begin l d .answer) .first < 2 ^ 32) (sym e) (omega arith)
+    go : Case (lengths-ok l) → answer-numbers (call (request begin) l d .answer) .first < 2 ^ 32
+    go (no! e) = subst (λ b. answer-numbers (call-by b (request begin) l d .answer) .first < 2 ^ 32) (sym e) (omega arith)
     go (yes! e) =
         let z = lengths-said l e in
         let few = z .most-slots in
         let work = read-log-length _ (l .work-log) (z .work-log) in
-        subst (λ b. answer-numbers (call-by b begin l d .answer) .first < 2 ^ 32) (sym e) (begin-by-fits (first-broken (begin-checks (read-areas l) d)) (read-areas l) d (omega arith))
+        subst (λ b. answer-numbers (call-by b (request begin) l d .answer) .first < 2 ^ 32) (sym e) (begin-by-fits (first-broken (begin-checks (read-areas l) d)) (read-areas l) d (omega arith))
 
 -- The first value, as it is read.
 first-back : (a : Answer) → answer-numbers a .first < 2 ^ 32 → answer-numbers (read-values (value-bytes a)) .first ≡ answer-numbers a .first
@@ -60,21 +60,17 @@ first-back a h = be32-put (answer-numbers a .first) (put32 (answer-numbers a .se
 -- The book of a call is the one that the host keeps by what it reads: the values, and for an update the desk.
 book-read : (c : Call) (l : Lent) (d : Desk) (b : Book) → passed (call c l d .answer) ≡ true
     → book-call c (read-values (value-bytes (call c l d .answer))) (fed c (read-desk (desk-bytes (call c l d .desk)))) b ≡ book-call c (call c l d .answer) (fed c (call c l d .desk)) b
-unfolding book-call fed is-format is-restart
-book-read format l d b p = refl
-book-read (load ks vs) l d b p = refl
-book-read begin l d b p = ap (λ n. open-sheet n b) (first-back (call begin l d .answer) (begin-fits l d))
+unfolding book-call book-request fed fed-request
+book-read (start s) l d b p = refl
 book-read restart l d b p = refl
-book-read (fetch n k) l d b p = refl
-book-read (next n k) l d b p = refl
-book-read (previous n k) l d b p = refl
-book-read (insert n k v) l d b p = ap (λ q. write-line n (last-in n (q .rows)) (file k v) b) (passed-read-back (insert n k v) l d refl refl p)
-book-read (delete n k) l d b p = ap (λ q. write-line n (last-in n (q .rows)) (strike k) b) (passed-read-back (delete n k) l d refl refl p)
-book-read (commit n) l d b p = refl
-book-read (abort n) l d b p = refl
-book-read (write-out q) l d b p = refl
-book-read (take-mark n) l d b p = refl
-book-read (return-to n m) l d b p = refl
+book-read (request begin) l d b p = ap (λ n. open-sheet n b) (first-back (call (request begin) l d .answer) (begin-fits l d))
+book-read (request (ask q)) l d b p = refl
+book-read (request (insert n k v)) l d b p = ap (λ q. write-line n (last-in n (q .rows)) (file k v) b) (passed-read-back (insert n k v) l d p)
+book-read (request (delete n k)) l d b p = ap (λ q. write-line n (last-in n (q .rows)) (strike k) b) (passed-read-back (delete n k) l d p)
+book-read (request (commit n)) l d b p = refl
+book-read (request (abort n)) l d b p = refl
+book-read (request (return-to n m)) l d b p = refl
+book-read (request (write-out q)) l d b p = refl
 
 book-alike : (p : Bool) (c : Call) (l : Lent) (d : Desk) (b : Book) → passed (call c l d .answer) ≡ p
     → book-after p c (read-values (value-bytes (call c l d .answer))) (read-desk (desk-bytes (call c l d .desk))) b ≡ book-after p c (call c l d .answer) (call c l d .desk) b

@@ -21,7 +21,7 @@ use Rattle.law_areas.specs.Lengths.{Lengths}
 use Rattle.law_areas.specs.Pages.{HoldsPages}
 use Rattle.law_areas.specs.Logs.{HoldsLog}
 use Rattle.law_areas.specs.Storing.{LogStored, PageStored, log-stored-first, log-stores-count, write-out-first, write-out-last}
-use Rattle.theory_calls.specs.Passing.{Walk, calm, commits, Stored, nothing, the-log, log-and-page}
+use Rattle.theory_calls.specs.Passing.{Walk, calm, by-commit-record, Stored, nothing, the-log, log-and-page}
 use Rattle.theory_recovery.specs.Invariant.{Sure}
 
 -- Stable areas that hold a log, each page a first part of it.
@@ -42,7 +42,7 @@ pub record Part (o : Origin) (n : ℕ) (l : Lent) (stable rest : List Rec) : Typ
 -- The history that a walk writes is ranged.
 pub walk-ranged : (o : Origin) (n : ℕ) → n ≤ map-bits → {s t : Run} (log : List Rec) → Walk (slides-after o log) s t → Standing o n s (slides-after o log) → t .due ≤ 2 ^ 32 → RangedHistory o n (s .log) → RangedHistory o n (t .log)
 walk-ranged o n most log (calm p) x l h = ranged-history-trail o n most p x l h
-walk-ranged o n most {s = s} log (commits {sl′ = sl′} {r = r} y) x l h = ranged-history-more o n most s (slides-after o log) sl′ r x y l h
+walk-ranged o n most {s = s} log (by-commit-record {sl′ = sl′} {r = r} y) x l h = ranged-history-more o n most s (slides-after o log) sl′ r x y l h
 
 module _ (o : Origin) (n m : ℕ) (l : Lent) (z : Lengths l n m) (stable : List Rec) (s : Sure o n l stable) (rest : List Rec) (t : Run) (is : t .log ≡ stable ++ rest) (st : Standing o n t (slides-after o (t .log))) (within : length (t .log) ≤ m) where
   room : slot-size * (length stable + length rest) ≤ length (l .stable-log)

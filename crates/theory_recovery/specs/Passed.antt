@@ -1,6 +1,7 @@
 -- A CALL THAT PASSED keeps the invariant, ended or cut.
 use Prim.Native.Nat.{ℕ, _+_, _≤_}
 use mathlib.Core.Path.{_≡_, refl, sym, ap, _∙_, subst}
+use mathlib.Core.Option.{Option, none, some}
 use mathlib.Core.Bool.{Bool, true, false}
 use mathlib.Core.List.{List, [], _∷_, _++_, append-assoc, append-nil, map}
 use native.Mathlib.Omega.{arith}
@@ -16,8 +17,9 @@ use Rattle.def_model.specs.Links.{relinked}
 use Rattle.def_model.specs.Areas.{log-stores}
 use Rattle.def_model.specs.Answers.{Outcome}
 use Rattle.def_model.specs.Calls.{run-side}
-use Rattle.def_model.specs.OnBytes.{Call, format, begin, restart, fetch, next, previous, insert, delete, commit, abort, write-out, Lent, store-all-bytes, work-bytes, log-bytes, take-mark, return-to, load}
-use Rattle.def_recovery.specs.Book.{Book, book-call, book-cut}
+use Rattle.def_model.specs.Fit.{found}
+use Rattle.def_model.specs.OnBytes.{Call, request, commit, Lent, store-all-bytes, work-bytes, log-bytes}
+use Rattle.def_recovery.specs.Book.{Book, book-call, book-cut, book-request, book-cut-by, commits, commits-request}
 use Rattle.def_recovery.specs.Events.{World, Rubble}
 use Rattle.def_recovery.specs.Demand3.{is-commit-of}
 use Rattle.theory_history.specs.Origin.{Origin}
@@ -58,29 +60,20 @@ sure-same origin n l k log p q s =
 
 -- A cut leaves the book, but of a commit.
 calm-cut : (c : Call) (b : Bool) (book : Book) → is-commit c ≡ false → book-cut c b book ≡ book
-unfolding is-commit book-cut
-calm-cut format b book e = refl
-calm-cut (load ks vs) b book e = refl
-calm-cut begin b book e = refl
-calm-cut restart b book e = refl
-calm-cut (fetch n k) b book e = refl
-calm-cut (next n k) b book e = refl
-calm-cut (previous n k) b book e = refl
-calm-cut (insert n k v) b book e = refl
-calm-cut (delete n k) b book e = refl
-calm-cut (commit n) b book e = clash e
-calm-cut (abort n) b book e = refl
-calm-cut (write-out p) b book e = refl
-calm-cut (take-mark n) b book e = refl
-calm-cut (return-to n m) b book e = refl
+unfolding is-commit book-cut found book-cut-by
+calm-cut c b book e = go (commits c) e
+  where
+    go : (o : Option ℕ) → found o ≡ false → book-cut-by o b book ≡ book
+    go none e = refl
+    go (some n) e = clash e
 
 -- A commit does what it would have done, if its record was stored, and else nothing.
-all-cut : (c : Call) (b : ℕ) (o : Outcome) (book : Book) → c ≡ commit b → book-cut c true book ≡ book-of c o book
-unfolding book-cut book-call
+all-cut : (c : Call) (b : ℕ) (o : Outcome) (book : Book) → c ≡ request (commit b) → book-cut c true book ≡ book-of c o book
+unfolding book-cut book-cut-by commits commits-request book-call book-request
 all-cut c b o book e = subst (λ q. book-cut q true book ≡ book-of q o book) (sym e) refl
 
-none-cut : (c : Call) (b : ℕ) (book : Book) → c ≡ commit b → book-cut c false book ≡ book
-unfolding book-cut
+none-cut : (c : Call) (b : ℕ) (book : Book) → c ≡ request (commit b) → book-cut c false book ≡ book
+unfolding book-cut book-cut-by commits commits-request
 none-cut c b book e = subst (λ q. book-cut q false book ≡ book) (sym e) refl
 
 module _ (origin : Origin) (n m : ℕ) (l : Lent) (z : Lengths l n m) (stable : List Rec) (s : Sure origin n l stable) (log rest : List Rec) (is : log ≡ stable ++ rest) (fixed : Fixed origin stable rest) (ranged : RangedHistory origin n log) (c : Call) (o : Outcome) (e : Ends origin n m stable log c o) (book : Book) (slides : book .slides ≡ slides-after origin stable) (tells : book-of c o book ≡ story origin (e .run .log)) where
@@ -173,13 +166,13 @@ module _ (origin : Origin) (n m : ℕ) (l : Lent) (z : Lengths l n m) (stable : 
 
   pub record Told (w : World) : Type 0 where
     pub next : Next stable w
-    pub told : (b : ℕ) → c ≡ commit b → any (is-commit-of b) (next .inv .log) ≡ true
+    pub told : (b : ℕ) → c ≡ request (commit b) → any (is-commit-of b) (next .inv .log) ≡ true
 
   abbrev pub ends-in : Desk → Bool → World
   ends-in d cut = after (length (o .stores)) (work-bytes (o .work .pages) (o .work .lefts)) (log-bytes (o .work .log)) d (book-of c o book) cut
 
   pub ended-next : (d : Desk) (cut : Bool) → Told (ends-in d cut)
-  unfolding is-commit
+  unfolding is-commit commits commits-request found
   ended-next d cut = go (e .follows)
     where
       j : ℕ
@@ -203,7 +196,7 @@ module _ (origin : Origin) (n m : ℕ) (l : Lent) (z : Lengths l n m) (stable : 
           (live (e .run .log) (lives (ends-in d cut .lent) refl refl (take (length (o .stores)) (rest ++ r ∷ [])) [] (u ∙ sym (append-nil _)) (fixed-none origin (stable ++ take (length (o .stores)) (rest ++ r ∷ [])))) tells) in
           record { next = y; told = λ k f. subst (λ a. any (is-commit-of k) a ≡ true) (sym (p ∙ v)) (any-last (is-commit-of k) (stable ++ rest) r (subst (λ a. is-commit-of a r ≡ true) (same b k (sym x ∙ f)) ok)) }
         where
-          same : (b k : ℕ) → commit b ≡ commit k → b ≡ k
+          same : (b k : ℕ) → request (commit b) ≡ request (commit k) → b ≡ k
           same b k f = cc
 
   -- ---- cut

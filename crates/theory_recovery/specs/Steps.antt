@@ -2,6 +2,7 @@
 use Prim.Native.Nat.{ℕ, zero, suc, _+_}
 use mathlib.Core.Path.{_≡_, refl, sym, ap, _∙_, subst}
 use mathlib.Core.Logic.{_⊎_, inl, inr}
+use mathlib.Core.Option.{Option, none, some}
 use mathlib.Core.Bool.{Bool, true, false, not, _&&_}
 use mathlib.Core.List.{List, [], _++_, append-nil}
 use lib.ListN.{length, take, replicate-append-replicate}
@@ -13,8 +14,8 @@ use Rattle.def_model.specs.declared.Refusal.{Refusal}
 use Rattle.def_model.specs.Links.{relinked}
 use Rattle.def_model.specs.Areas.{Store}
 use Rattle.def_model.specs.Answers.{passed}
-use Rattle.def_model.specs.OnBytes.{Call, format, begin, restart, fetch, next, previous, insert, delete, commit, abort, write-out, outcome, Lent, Result, call, call-by, read-areas, lengths-ok, lent-after, store-all-bytes, take-mark, return-to, load}
-use Rattle.def_recovery.specs.Book.{Book, book-cut}
+use Rattle.def_model.specs.OnBytes.{Call, request, commit, outcome, Lent, Result, call, call-by, read-areas, lengths-ok, lent-after, store-all-bytes}
+use Rattle.def_recovery.specs.Book.{Book, book-cut, book-cut-by, commits}
 use Rattle.def_recovery.specs.Events.{World, Rubble, Granted, is-format, result, passes, book-after, end-call, cut-call, all-stored, grow}
 use Rattle.def_recovery.specs.Demand3.{is-commit-of}
 use Rattle.theory_history.specs.Start.{pages-after}
@@ -23,10 +24,11 @@ use Rattle.law_areas.specs.Working.{HoldsWork}
 use Rattle.law_areas.specs.Logs.{HoldsLog}
 use Rattle.theory_recovery.specs.Invariant.{Mode, live, dead, lost, Inv}
 use Rattle.theory_refusals.specs.Order.{not-passed}
-use Rattle.theory_refusals.specs.Left.{zeroes, empties}
+use Rattle.law_c.specs.RefusedByC.{empties}
+use Rattle.theory_refusals.specs.Left.{zeroes}
 use Rattle.theory_refusals.specs.OnBytes.{left-lent-by, refused-leaves}
 use Rattle.theory_recovery.specs.Passed.{Next, sure-same, ended-next, cut-in, cut-next}
-use Rattle.theory_recovery.specs.Going.{does, Going, going}
+use Rattle.theory_recovery.specs.Going.{outcome-in, Going, going}
 
 -- ---- growth
 
@@ -71,21 +73,12 @@ unpassed c l d p = let (r, e) = not-passed (call c l d .answer) p in subst (Unpa
     go r true = record { answer = refl; stores = refl; work = inr (length (l .work-pages), length (l .work-log), refl, refl) }
 
 pub no-cut : (c : Call) (b : Book) → book-cut c false b ≡ b
-unfolding book-cut
-no-cut format b = refl
-no-cut (load ks vs) b = refl
-no-cut begin b = refl
-no-cut restart b = refl
-no-cut (fetch n k) b = refl
-no-cut (next n k) b = refl
-no-cut (previous n k) b = refl
-no-cut (insert n k v) b = refl
-no-cut (delete n k) b = refl
-no-cut (commit n) b = refl
-no-cut (abort n) b = refl
-no-cut (write-out p) b = refl
-no-cut (take-mark n) b = refl
-no-cut (return-to n m) b = refl
+unfolding book-cut book-cut-by
+no-cut c b = go (commits c)
+  where
+    go : (o : Option ℕ) → book-cut-by o false b ≡ b
+    go none = refl
+    go (some n) = refl
 
 -- The world after a result, ended or cut.
 abbrev pub ended-by : Call → Result → World → World
@@ -160,7 +153,7 @@ module _ (w : World) (i : Inv w) (c : Call) (r : Result) (u : Unpassed (w .lent)
 -- A passed call's commit record is stored.
 pub record Reports (w : World) (i : Inv w) (c : Call) (w′ : World) : Type 0 where
   pub next : Next (i .log) w′
-  pub told : (b : ℕ) → c ≡ commit b → passes c w ≡ true → any (is-commit-of b) (next .inv .log) ≡ true
+  pub told : (b : ℕ) → c ≡ request (commit b) → passes c w ≡ true → any (is-commit-of b) (next .inv .log) ≡ true
 
 pub result-by : (c : Call) (w : World) (b : Bool) → lengths-ok (w .lent) ≡ b → result c w ≡ call-by b c (w .lent) (w .desk)
 unfolding call
@@ -191,26 +184,26 @@ module _ (w : World) (i : Inv w) (c : Call) (g : Granted c w) where
   unfolding cut-call
   cut-by-refusal j left u = refused-cut w i c (result c w) u j left
 
-  pub goes : lengths-ok (w .lent) ≡ true → passed (does c w .answer) ≡ true → Going (i .origin) w (i .log) c
+  pub goes : lengths-ok (w .lent) ≡ true → passed (outcome-in c w .answer) ≡ true → Going (i .origin) w (i .log) c
   unfolding call-by
   goes e p =
       let q : passes c w ≡ true = ap (λ r. passed (r .answer)) (result-by c w true e) ∙ p in
       going w i e c (g .numbers) (not-format c w g q) (λ s. g .restart-first s q) p
 
-  by-passing : lengths-ok (w .lent) ≡ true → passed (does c w .answer) ≡ true → Going (i .origin) w (i .log) c → Reports w i c (end-call c w)
+  by-passing : lengths-ok (w .lent) ≡ true → passed (outcome-in c w .answer) ≡ true → Going (i .origin) w (i .log) c → Reports w i c (end-call c w)
   unfolding end-call call-by lent-after book-after
   by-passing e p x =
-      let t = ended-next (i .origin) (x .n) (x .m) (w .lent) (x .lengths) (i .log) (x .sure) (x .log) (x .rest) (x .longer) (x .fixed) (x .ranged) c (does c w) (x .ends) (w .book) (i .slides) (x .tells) (does c w .desk) (w .since-cut && not (passed (does c w .answer))) in
+      let t = ended-next (i .origin) (x .n) (x .m) (w .lent) (x .lengths) (i .log) (x .sure) (x .log) (x .rest) (x .longer) (x .fixed) (x .ranged) c (outcome-in c w) (x .ends) (w .book) (i .slides) (x .tells) (outcome-in c w .desk) (w .since-cut && not (passed (outcome-in c w .answer))) in
       subst (λ q. Reports w i c (ended-by c q w)) (sym (result-by c w true e))
-      (subst (λ q. Reports w i c (record { lent = lent-after (length (does c w .stores)) (call-by true c (w .lent) (w .desk)) (w .lent); desk = does c w .desk; book = book-after q c (does c w .answer) (does c w .desk) (w .book); since-cut = w .since-cut && not (passed (does c w .answer)) })) (sym p)
+      (subst (λ q. Reports w i c (record { lent = lent-after (length (outcome-in c w .stores)) (call-by true c (w .lent) (w .desk)) (w .lent); desk = outcome-in c w .desk; book = book-after q c (outcome-in c w .answer) (outcome-in c w .desk) (w .book); since-cut = w .since-cut && not (passed (outcome-in c w .answer)) })) (sym p)
       (record { next = t .next; told = λ b f q. t .told b f }))
 
-  cut-by-passing : (j : ℕ) (left : Rubble) → lengths-ok (w .lent) ≡ true → passed (does c w .answer) ≡ true → Going (i .origin) w (i .log) c → Next (i .log) (cut-call c j left w)
+  cut-by-passing : (j : ℕ) (left : Rubble) → lengths-ok (w .lent) ≡ true → passed (outcome-in c w .answer) ≡ true → Going (i .origin) w (i .log) c → Next (i .log) (cut-call c j left w)
   unfolding cut-call call-by lent-after
   cut-by-passing j left e p x =
-      let t = cut-next (i .origin) (x .n) (x .m) (w .lent) (x .lengths) (i .log) (x .sure) (x .log) (x .rest) (x .longer) (x .fixed) (x .ranged) c (does c w) (x .ends) (w .book) (i .slides) (x .tells) j left in
+      let t = cut-next (i .origin) (x .n) (x .m) (w .lent) (x .lengths) (i .log) (x .sure) (x .log) (x .rest) (x .longer) (x .fixed) (x .ranged) c (outcome-in c w) (x .ends) (w .book) (i .slides) (x .tells) j left in
       subst (λ q. Next (i .log) (cut-by c j left q w)) (sym (result-by c w true e))
-      (subst (λ q. Next (i .log) (record { lent = cut-in (i .origin) (x .n) (x .m) (w .lent) (x .lengths) (i .log) (x .sure) (x .log) (x .rest) (x .longer) (x .fixed) (x .ranged) c (does c w) (x .ends) (w .book) (i .slides) (x .tells) j left .lent; desk = left .desk; book = book-cut c (q && leb (length (does c w .stores)) j) (w .book); since-cut = true })) (sym p) t)
+      (subst (λ q. Next (i .log) (record { lent = cut-in (i .origin) (x .n) (x .m) (w .lent) (x .lengths) (i .log) (x .sure) (x .log) (x .rest) (x .longer) (x .fixed) (x .ranged) c (outcome-in c w) (x .ends) (w .book) (i .slides) (x .tells) j left .lent; desk = left .desk; book = book-cut c (q && leb (length (outcome-in c w .stores)) j) (w .book); since-cut = true })) (sym p) t)
 
   -- A CALL THAT ENDED.
   pub ended-reports : Reports w i c (end-call c w)

@@ -1,14 +1,13 @@
 -- DEMAND 3: for any list of calls, cuts and growth since the last finished formatting.
 use Prim.Native.Nat.{ℕ, _+_, _*_, _/_, _≤_}
 use mathlib.Core.Path.{_≡_, refl, sym, ap, _∙_, subst, subst₂}
-use mathlib.Core.Option.{Option}
 use mathlib.Core.Logic.{_⊎_, inl, inr}
 use mathlib.Core.Bool.{true, false}
 use mathlib.Core.List.{List, [], _∷_, _++_, append-assoc, append-nil, map}
 use native.Mathlib.Omega.{arith}
 use lib.ListN.{length, take, replicate}
 use lib.Seq.{take-all}
-use Rattle.def_base.specs.Tests.{any, clash}
+use Rattle.def_base.specs.Tests.{any}
 use Rattle.def_layout.specs.declared.Entry.{Entry}
 use Rattle.def_layout.specs.declared.Desk.{Desk}
 use Rattle.def_layout.specs.Desks.{empty-desk}
@@ -16,21 +15,20 @@ use Rattle.def_layout.specs.Pages.{Page, map-bits}
 use Rattle.def_layout.specs.PageBytes.{page}
 use Rattle.def_layout.specs.Sizes.{page-size, slot-size}
 use Rattle.def_layout.specs.RecordBytes.{empty}
-use Rattle.def_model.specs.declared.Refusal.{Refusal}
 use Rattle.def_model.specs.declared.Answer.the-variants.{Done}
 use Rattle.def_model.specs.Areas.{pages-of}
-use Rattle.def_model.specs.Answers.{answer-numbers, passed}
+use Rattle.def_model.specs.Answers.{answer-numbers, passed, Outcome, first-broken}
 use Rattle.def_model.specs.TreeRules.{leaf-records}
 use Rattle.def_model.specs.Batches.{open-batches, told}
 use Rattle.def_model.specs.Loading.{columns, loaded-pages}
-use Rattle.def_model.specs.Calls.{formatted-pages, format-stores, format-areas, start-side, load-by, load-areas}
+use Rattle.def_model.specs.Calls.{formatted-pages, format-stores, format-areas, start-side, load-areas}
 use Rattle.def_model.specs.Links.{relinked}
 use Rattle.def_model.specs.Restart.{stable-log, redone, restarted}
 use Rattle.def_model.specs.Redo.{replay}
 use Rattle.def_model.specs.OnBytes
-use Rattle.def_model.specs.OnBytes.{Call, Result, format, begin, restart, fetch, next, previous, insert, delete, commit, abort, write-out, take-mark, return-to, outcome, Lent, call, call-by, read-areas, read-work, work-bytes, log-bytes, lengths-ok, lent-after, store-all-bytes, load}
+use Rattle.def_model.specs.OnBytes.{Result, start, restart, request, Start, format, load, commit, checks, start-checks, does, start-does, outcome-by, outcome, Lent, call, call-by, read-areas, read-work, work-bytes, log-bytes, lengths-ok, lent-after, store-all-bytes}
 use Rattle.def_recovery.specs.Book.{new-book}
-use Rattle.def_recovery.specs.Events.{World, Event, ended, cut, grown, Allowed, AllAllowed, formatted, happen, happen-all, is-format, of-32-bits, passes, started, first-slides}
+use Rattle.def_recovery.specs.Events.{World, Event, ended, cut, grown, Allowed, AllAllowed, formatted, happen, happen-all, of-32-bits, passes, started, first-slides}
 use Rattle.def_recovery.specs.Demand3.{Demand3, Recovers, WantsExactly, Suffices, FinishesOrWants, RedoBalances, LeavesAreSlides, reason, stored, is-commit-of}
 use Rattle.theory_ledger.specs.Telling.{slides-of, slides-from}
 use Rattle.theory_room.specs.Restarting.{restarted-cases, restarted-finishes, restarted-wants-room, restarted-wants-pages, restarted-wants-room-first, some-room-does, redone-no-room}
@@ -52,7 +50,8 @@ use Rattle.theory_calls.specs.LiveAreas.{run-left}
 use Rattle.theory_history.specs.Linking.{history-linked}
 use Rattle.theory_tree.specs.Shape.LeftLinks.{relinked-length}
 use Rattle.theory_calls.specs.Restarting.{restart-reason, finished, restart-work, restart-within}
-use Rattle.theory_load.specs.Checked.{Starts, load-passes, load-starts}
+use Rattle.theory_refusals.specs.Order.{passed-does}
+use Rattle.theory_load.specs.Checked.{Starts, load-starts}
 use Rattle.theory_sound.specs.RestartRoom.{reserves-finish, reserves-end, redone-no-page}
 use Rattle.theory_recovery.specs.Invariant.{Sure, live, Inv}
 use Rattle.theory_recovery.specs.Fixing.{fixed-none, any-first}
@@ -121,24 +120,23 @@ module _ (l : Lent) (d : Desk) (lens : lengths-ok l ≡ true) where
       (subst (λ xs. HoldsWork (work-bytes (map page pages) (relinked pages [])) xs (relinked xs [])) e (work-hold pages (relinked pages []))) k
 
   formatted-inv : Inv (formatted l d)
-  unfolding started first-slides call call-by outcome format-areas start-side done made n m formatted-origin
+  unfolding started first-slides call call-by outcome outcome-by checks start-checks first-broken does start-does format-areas start-side done made n m formatted-origin
   formatted-inv =
       let g = sizes .least-pages in
-      subst (λ b. Inv (let r = call-by b format l d in record { lent = lent-after (length (r .stores)) r l; desk = r .desk; book = new-book []; since-cut = false })) (sym lens) (done-inv formatted-origin (formatted-pages n) (omega arith) (sym (formatted-is n (omega arith))))
+      subst (λ b. Inv (let r = call-by b (start format) l d in record { lent = lent-after (length (r .stores)) r l; desk = r .desk; book = new-book []; since-cut = false })) (sym lens) (done-inv formatted-origin (formatted-pages n) (omega arith) (sym (formatted-is n (omega arith))))
 
-  loaded-inv : (ks vs : List ℕ) → of-32-bits (load ks vs) ≡ true → passed (outcome (load ks vs) (read-areas l) d .answer) ≡ true → Inv (started (load ks vs) l d)
-  unfolding started first-slides call call-by outcome load-areas load-by start-side done made n m
+  loaded-inv : (ks vs : List ℕ) → of-32-bits (start (load ks vs)) ≡ true → passed (outcome (start (load ks vs)) (read-areas l) d .answer) ≡ true → Inv (started (load ks vs) l d)
+  unfolding started first-slides call call-by does start-does load-areas start-side done made n m
   loaded-inv ks vs fits q =
       let a = read-areas l in
       let s = load-starts ks vs a d q fits (sizes .most-pages) in
       let pages = loaded-pages n (columns ks vs) in
       let i : Inv (done pages (columns ks vs)) = subst (λ es. Inv (done pages es)) (s .slides-are) (done-inv (s .origin) pages (s .enough) (s .pages-are)) in
-      let after : (o : Option Refusal) → World = λ o.
-      let y = load-by o ks vs a in
+      let after : Outcome → World = λ y.
       let r : Result = record { answer = y .answer; work-pages = work-bytes (y .work .pages) (y .work .lefts); work-log = log-bytes (y .work .log); desk = y .desk; stores = y .stores } in
       record { lent = lent-after (length (r .stores)) r l; desk = r .desk; book = new-book (columns ks vs); since-cut = false } in
-      subst (λ b. Inv (let r = call-by b (load ks vs) l d in record { lent = lent-after (length (r .stores)) r l; desk = r .desk; book = new-book (columns ks vs); since-cut = false })) (sym lens)
-      (subst (λ o. Inv (after o)) (sym (load-passes ks vs a d q)) i)
+      subst (λ b. Inv (let r = call-by b (start (load ks vs)) l d in record { lent = lent-after (length (r .stores)) r l; desk = r .desk; book = new-book (columns ks vs); since-cut = false })) (sym lens)
+      (subst (λ y. Inv (after y)) (sym (passed-does (start (load ks vs)) a d q .1)) i)
 
 -- ---- any list of events
 
@@ -157,12 +155,12 @@ all-keep (e ∷ es) w i a =
     record { inv = y .inv; more = x .more ++ y .more; longer = y .longer ∙ ap (_++ y .more) (x .longer) ∙ append-assoc (i .log) (x .more) (y .more) }
 
 -- A commit that was reported is in the log from then on.
-pub reported-stays : (before later : List Event) (b : ℕ) (w : World) (i : Inv w) → AllAllowed (before ++ ended (commit b) ∷ later) w → passes (commit b) (happen-all before w) ≡ true
-    → (x : Inv (happen-all (before ++ ended (commit b) ∷ later) w)) × (any (is-commit-of b) (x .log) ≡ true)
+pub reported-stays : (before later : List Event) (b : ℕ) (w : World) (i : Inv w) → AllAllowed (before ++ ended (request (commit b)) ∷ later) w → passes (request (commit b)) (happen-all before w) ≡ true
+    → (x : Inv (happen-all (before ++ ended (request (commit b)) ∷ later) w)) × (any (is-commit-of b) (x .log) ≡ true)
 unfolding AllAllowed happen-all Allowed happen
 reported-stays [] later b w i a p =
-    let x = ended-reports w i (commit b) (a .0) in
-    let y = all-keep later (happen (ended (commit b)) w) (x .next .inv) (a .1) in
+    let x = ended-reports w i (request (commit b)) (a .0) in
+    let y = all-keep later (happen (ended (request (commit b))) w) (x .next .inv) (a .1) in
     (y .inv, subst (λ q. any (is-commit-of b) q ≡ true) (sym (y .longer)) (any-first (is-commit-of b) (x .next .inv .log) (y .more) (x .told b refl p)))
 reported-stays (e ∷ before) later b w i a p = reported-stays before later b (happen e w) (event-keeps e w i (a .0) .inv) (a .1) p
 
@@ -279,35 +277,22 @@ recovers es w i a =
       reported = λ z before later b e p. reports es z before later b e p a;
     }
   where
-    reports : (es : List Event) → lengths-ok (happen-all es w .lent) ≡ true → (before later : List Event) (b : ℕ) → es ≡ before ++ ended (commit b) ∷ later → passes (commit b) (happen-all before w) ≡ true → AllAllowed es w
+    reports : (es : List Event) → lengths-ok (happen-all es w .lent) ≡ true → (before later : List Event) (b : ℕ) → es ≡ before ++ ended (request (commit b)) ∷ later → passes (request (commit b)) (happen-all before w) ≡ true → AllAllowed es w
         → any (is-commit-of b) (stable-log (stored (happen-all es w))) ≡ true
     reports es z before later b e p a =
-        let f : List Event = before ++ ended (commit b) ∷ later in
+        let f : List Event = before ++ ended (request (commit b)) ∷ later in
         let (x, y) = reported-stays before later b w i (subst (λ q. AllAllowed q w) e a) p in
         let z′ : lengths-ok (happen-all f w .lent) ≡ true = subst (λ q. lengths-ok (happen-all q w .lent) ≡ true) e z in
         subst (λ q. any (is-commit-of b) (stable-log (stored (happen-all q w))) ≡ true) (sym e) (subst (λ q. any (is-commit-of b) q ≡ true) (sym (logged (happen-all f w) x z′)) y)
 
 -- A finished formatting or loading.
-start-keeps : (c : Call) (l : Lent) (d : Desk) → lengths-ok l ≡ true → is-format c ≡ true → of-32-bits c ≡ true → passed (outcome c (read-areas l) d .answer) ≡ true → Inv (started c l d)
-unfolding is-format
-start-keeps format l d lens f fits p = formatted-inv l d lens
-start-keeps (load ks vs) l d lens f fits p = loaded-inv l d lens ks vs fits p
-start-keeps begin l d lens f fits p = clash (sym f)
-start-keeps restart l d lens f fits p = clash (sym f)
-start-keeps (fetch n k) l d lens f fits p = clash (sym f)
-start-keeps (next n k) l d lens f fits p = clash (sym f)
-start-keeps (previous n k) l d lens f fits p = clash (sym f)
-start-keeps (insert n k v) l d lens f fits p = clash (sym f)
-start-keeps (delete n k) l d lens f fits p = clash (sym f)
-start-keeps (commit n) l d lens f fits p = clash (sym f)
-start-keeps (abort n) l d lens f fits p = clash (sym f)
-start-keeps (write-out q) l d lens f fits p = clash (sym f)
-start-keeps (take-mark n) l d lens f fits p = clash (sym f)
-start-keeps (return-to n m) l d lens f fits p = clash (sym f)
+start-keeps : (s : Start) (l : Lent) (d : Desk) → lengths-ok l ≡ true → of-32-bits (start s) ≡ true → passed (outcome (start s) (read-areas l) d .answer) ≡ true → Inv (started s l d)
+start-keeps format l d lens fits p = formatted-inv l d lens
+start-keeps (load ks vs) l d lens fits p = loaded-inv l d lens ks vs fits p
 
-pub begun : (c : Call) (l : Lent) (d : Desk) → is-format c ≡ true → of-32-bits c ≡ true → passed (call c l d .answer) ≡ true → Inv (started c l d)
-begun c l d f fits p = let (lens, q) = passing c l d p in start-keeps c l d lens f fits q
+pub begun : (s : Start) (l : Lent) (d : Desk) → of-32-bits (start s) ≡ true → passed (call (start s) l d .answer) ≡ true → Inv (started s l d)
+begun s l d fits p = let (lens, q) = passing (start s) l d p in start-keeps s l d lens fits q
 
 pub demand-3 : Demand3
 unfolding Demand3
-demand-3 c l d f fits p es a = recovers es (started c l d) (begun c l d f fits p) a
+demand-3 s l d fits p es a = recovers es (started s l d) (begun s l d fits p) a

@@ -2,6 +2,9 @@
 -- values, which leaves the areas.
 use Prim.Native.Nat.{ℕ}
 use mathlib.Core.Path.{_≡_, refl, sym, ap, _∙_, subst}
+use mathlib.Core.Option.{Option, none, some}
+use Rattle.def_model.specs.declared.Refusal.{Refusal}
+use Rattle.def_model.specs.Answers.{first-broken}
 use mathlib.Core.Bool.{Bool, true, false, _&&_}
 use mathlib.Core.List.{List, [], _∷_, _++_, append-assoc, append-nil}
 use lib.ListN.{length, take}
@@ -12,9 +15,9 @@ use Rattle.def_layout.specs.Desks.{desk-bytes, read-desk}
 use Rattle.def_layout.specs.Records.{Rec}
 use Rattle.def_layout.specs.Sizes.{desk-size}
 use Rattle.def_model.specs.Answers.{passed}
-use Rattle.def_model.specs.Restart.{stable-log, restart-areas}
-use Rattle.def_model.specs.OnBytes.{Call, restart, commit, Lent, lengths-ok, outcome, refused-desk, call-by, call, store-all-bytes, lent-after}
-use Rattle.def_recovery.specs.Book.{new-book, book-cut}
+use Rattle.def_model.specs.Restart.{stable-log, restart-checks, restart-areas}
+use Rattle.def_model.specs.OnBytes.{Call, Start, start, restart, request, commit, Lent, lengths-ok, read-areas, work-bytes, log-bytes, checks, does, refused, refused-work, refused-desk, outcome-by, outcome, call-by, call, store-all-bytes, lent-after}
+use Rattle.def_recovery.specs.Book.{new-book, book-cut, book-cut-by, commits}
 use Rattle.def_recovery.specs.Events.{World, Granted, AllAllowed, cut-call, grow, started, first-slides, book-after, is-format, is-restart, of-32-bits}
 use Rattle.def_recovery.specs.Demand3.{is-commit-of, stored}
 use Rattle.def_c.specs.FromC.{values-size, areas-left, answered, sizes-ok, refused-desk-bytes, returned-by, c-call, c-stores-by, c-stores}
@@ -51,7 +54,7 @@ module _ (c : Call) (values : List ℕ) (w : CWorld) (wrong : sizes-ok (w .desk)
 
   -- The power may fail in such a call as well: as in a restart that has stored nothing yet.
   refused-cut-alike : (budget : ℕ) (left : CRubble) → as-world (c-happen (cut c values budget left) w) ≡ cut-call restart 0 (record { work-pages = left .work-pages; work-log = left .work-log; desk = read-desk (left .desk) }) (as-world w)
-  unfolding c-happen cut-c-call cut-call lent-after c-stores c-stores-by book-cut store-all-bytes
+  unfolding c-happen cut-c-call cut-call lent-after c-stores c-stores-by book-cut book-cut-by commits store-all-bytes
   refused-cut-alike budget left =
       let none : store-all-bytes (take budget (c-stores c (w .lent) (w .desk) values)) (w .lent) ≡ w .lent = take-none budget _ (ap (λ b. c-stores-by b c (w .lent) (w .desk)) wrong) (w .lent) in
       let book : book-cut c (returns-0 c values w && leb (length (c-stores c (w .lent) (w .desk) values)) budget) (w .book) ≡ w .book = ap (λ b. book-cut c (b && leb (length (c-stores c (w .lent) (w .desk) values)) budget) (w .book)) not-0 ∙ no-cut c (w .book) in
@@ -77,7 +80,7 @@ restart-granted w = record { numbers = refl; no-format = λ f. clash (sym f); re
 -- A commit that returned 0 is in the log.
 record CReports (c : Call) (values : List ℕ) (w : CWorld) (i : Inv (as-world w)) (w′ : World) : Type 0 where
   next : Next (i .log) w′
-  told : (b : ℕ) → c ≡ commit b → returns-0 c values w ≡ true → any (is-commit-of b) (next .inv .log) ≡ true
+  told : (b : ℕ) → c ≡ request (commit b) → returns-0 c values w ≡ true → any (is-commit-of b) (next .inv .log) ≡ true
 
 ended-reports-c : (c : Call) (values : List ℕ) (w : CWorld) (i : Inv (as-world w)) → CGranted c values w → CReports c values w i (as-world (c-happen (ended c values) w))
 ended-reports-c c values w i g = go (case (sizes-ok (w .desk) values))
@@ -113,19 +116,22 @@ all-keep-c (e ∷ es) w i a =
     let y = all-keep-c es (c-happen e w) (x .inv) (a .1) in
     record { inv = y .inv; more = x .more ++ y .more; longer = y .longer ∙ ap (_++ y .more) (x .longer) ∙ append-assoc (i .log) (x .more) (y .more) }
 
-reported-stays-c : (before later : List CEvent) (b : ℕ) (values : List ℕ) (w : CWorld) (i : Inv (as-world w)) → CAllAllowed (before ++ ended (commit b) values ∷ later) w → returns-0 (commit b) values (c-happen-all before w) ≡ true
-    → (x : Inv (as-world (c-happen-all (before ++ ended (commit b) values ∷ later) w))) × (any (is-commit-of b) (x .log) ≡ true)
+reported-stays-c : (before later : List CEvent) (b : ℕ) (values : List ℕ) (w : CWorld) (i : Inv (as-world w)) → CAllAllowed (before ++ ended (request (commit b)) values ∷ later) w → returns-0 (request (commit b)) values (c-happen-all before w) ≡ true
+    → (x : Inv (as-world (c-happen-all (before ++ ended (request (commit b)) values ∷ later) w))) × (any (is-commit-of b) (x .log) ≡ true)
 unfolding CAllAllowed c-happen-all CAllowed
 reported-stays-c [] later b values w i a p =
-    let x = ended-reports-c (commit b) values w i (a .0) in
-    let y = all-keep-c later (c-happen (ended (commit b) values) w) (x .next .inv) (a .1) in
+    let x = ended-reports-c (request (commit b)) values w i (a .0) in
+    let y = all-keep-c later (c-happen (ended (request (commit b)) values) w) (x .next .inv) (a .1) in
     (y .inv, subst (λ q. any (is-commit-of b) q ≡ true) (sym (y .longer)) (any-first (is-commit-of b) (x .next .inv .log) (y .more) (x .told b refl p)))
 reported-stays-c (e ∷ before) later b values w i a p = reported-stays-c before later b values (c-happen e w) (event-keeps-c e w i (a .0) .inv) (a .1) p
 
 -- ---- the start, and the further restart
 
 -- A formatting or loading that returned 0 was lent right lengths.
-module _ (c : Call) (l : Lent) (desk values : List ℕ) (is : is-format c ≡ true) (fits : of-32-bits c ≡ true) (done : c-call c l desk values .reason ≡ 0) where
+module _ (s : Start) (l : Lent) (desk values : List ℕ) (fits : of-32-bits (start s) ≡ true) (done : c-call (start s) l desk values .reason ≡ 0) where
+  abbrev c : Call
+  c = start s
+
   was-0 : eqb (c-call c l desk values .reason) 0 ≡ true
   was-0 = eq-true (c-call c l desk values .reason) 0 done
 
@@ -145,19 +151,23 @@ module _ (c : Call) (l : Lent) (desk values : List ℕ) (is : is-format c ≡ tr
   unfolding answered
   went = sym (zero-if-passed (call c l (read-desk desk) .answer)) ∙ ap (λ r. eqb (r .reason) 0) (sym answered-so) ∙ was-0
 
-  c-begun : Inv (as-world (c-started c l desk values))
+  c-begun : Inv (as-world (c-started s l desk values))
   unfolding c-started started answered areas-left
   c-begun =
       let d = read-desk desk in
-      subst (λ r. Inv (record { lent = r .areas; desk = read-desk (r .desk); book = new-book (first-slides c); since-cut = false })) (sym answered-so) (inv-desk (read-desk (desk-bytes (call c l d .desk))) (begun c l d is fits went))
+      subst (λ r. Inv (record { lent = r .areas; desk = read-desk (r .desk); book = new-book (first-slides s); since-cut = false })) (sym answered-so) (inv-desk (read-desk (desk-bytes (call c l d .desk))) (begun s l d fits went))
 
 -- Restart does not look at the desk.
 restart-any-desk : (l : Lent) (d e : Desk) → call restart l d ≡ call restart l e
-unfolding call call-by outcome restart-areas refused-desk
+unfolding call call-by outcome outcome-by checks does refused refused-work refused-desk restart-areas
 restart-any-desk l d e = go (lengths-ok l)
   where
+    by : (o : Option Refusal) → outcome-by o restart (read-areas l) d ≡ outcome-by o restart (read-areas l) e
+    by none = refl
+    by (some r) = refl
+
     go : (b : Bool) → call-by b restart l d ≡ call-by b restart l e
-    go true = refl
+    go true = ap (λ o. record { answer = o .answer; work-pages = work-bytes (o .work .pages) (o .work .lefts); work-log = log-bytes (o .work .log); desk = o .desk; stores = o .stores }) (by (first-broken (restart-checks (read-areas l))))
     go false = refl
 
 restarts-alike : (w : CWorld) → RestartsAlike w
@@ -170,21 +180,21 @@ restarts-alike w desk values e f =
 
 pub c-demand-3 : CDemand3
 unfolding CDemand3 AllAllowed
-c-demand-3 c l desk values is fits done es a =
-    let w = c-started c l desk values in
-    let i = c-begun c l desk values is fits done in
+c-demand-3 s l desk values fits done es a =
+    let w = c-started s l desk values in
+    let i = c-begun s l desk values fits done in
     record {
       alike = restarts-alike (c-happen-all es w);
       recovers = recovers [] (as-world (c-happen-all es w)) (all-keep-c es w i a .inv) tt;
       reported = λ z before later b v e p. reports es z before later b v e p a;
     }
   where
-    reports : (es : List CEvent) → lengths-ok (c-happen-all es (c-started c l desk values) .lent) ≡ true → (before later : List CEvent) (b : ℕ) (v : List ℕ) → es ≡ before ++ ended (commit b) v ∷ later
-        → returns-0 (commit b) v (c-happen-all before (c-started c l desk values)) ≡ true → CAllAllowed es (c-started c l desk values)
-        → any (is-commit-of b) (stable-log (stored (as-world (c-happen-all es (c-started c l desk values))))) ≡ true
+    reports : (es : List CEvent) → lengths-ok (c-happen-all es (c-started s l desk values) .lent) ≡ true → (before later : List CEvent) (b : ℕ) (v : List ℕ) → es ≡ before ++ ended (request (commit b)) v ∷ later
+        → returns-0 (request (commit b)) v (c-happen-all before (c-started s l desk values)) ≡ true → CAllAllowed es (c-started s l desk values)
+        → any (is-commit-of b) (stable-log (stored (as-world (c-happen-all es (c-started s l desk values))))) ≡ true
     reports es z before later b v e p a =
-        let w = c-started c l desk values in
-        let f : List CEvent = before ++ ended (commit b) v ∷ later in
-        let (x, y) = reported-stays-c before later b v w (c-begun c l desk values is fits done) (subst (λ q. CAllAllowed q w) e a) p in
+        let w = c-started s l desk values in
+        let f : List CEvent = before ++ ended (request (commit b)) v ∷ later in
+        let (x, y) = reported-stays-c before later b v w (c-begun s l desk values fits done) (subst (λ q. CAllAllowed q w) e a) p in
         let z′ : lengths-ok (c-happen-all f w .lent) ≡ true = subst (λ q. lengths-ok (c-happen-all q w .lent) ≡ true) e z in
         subst (λ q. any (is-commit-of b) (stable-log (stored (as-world (c-happen-all q w)))) ≡ true) (sym e) (subst (λ q. any (is-commit-of b) q ≡ true) (sym (logged (as-world (c-happen-all f w)) x z′)) y)

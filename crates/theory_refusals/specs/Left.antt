@@ -1,6 +1,6 @@
 -- What a refused call leaves of typed areas and the desk, call by call.
 use mathlib.Core.Path.{_≡_, refl, sym, ap, _∙_, subst}
-use mathlib.Core.Bool.{Bool, true, _&&_, _||_}
+use mathlib.Core.Bool.{Bool, true, _&&_}
 use mathlib.Core.Option.{some}
 use mathlib.Core.List.{List, [], _∷_}
 use lib.ListN.{length}
@@ -12,19 +12,15 @@ use Rattle.def_model.specs.declared.Refusal.{Refusal}
 use Rattle.def_model.specs.declared.Answer.the-variants.{Refused}
 use Rattle.def_model.specs.Areas.{Areas, zero-side}
 use Rattle.def_model.specs.Answers.{Outcome, Check, first-broken, refusal-number}
-use Rattle.def_model.specs.Calls.{begin-by, begin-batch, fetch-by, fetch-slide, next-slide-by, previous-slide-by, next-slide, previous-slide, insert-by, insert-slide, delete-by, delete-slide, commit-by, commit-batch, abort-by, abort-batch, write-out-by, write-out-page, latest-by, mark-batch, return-by, return-batch, load-by, load-areas}
-use Rattle.def_model.specs.Restart.{restart-checks, restart-by, restart-areas}
-use Rattle.def_model.specs.OnBytes.{Call, format, begin, restart, fetch, next, previous, insert, delete, commit, abort, write-out, outcome, take-mark, return-to, load}
-use Rattle.def_recovery.specs.Events.{is-format, is-restart}
-use Rattle.theory_refusals.specs.Order.{checks}
+use Rattle.def_model.specs.Restart.{restart-checks}
+use Rattle.def_model.specs.OnBytes.{Call, start, restart, request, checks, refused, refused-work, refused-desk, outcome}
+use Rattle.def_recovery.specs.Events.{is-restart}
+use Rattle.law_c.specs.RefusedByC.{empties}
+use Rattle.law_areas.specs.Outcomes.{broken-refused}
 
 -- 01: "restart's 3 to 18 zero the working areas".
 unfoldable pub zeroes : Call → Refusal → Bool
 zeroes c r = is-restart c && (leb 3 (refusal-number r) && leb (refusal-number r) 18)
-
--- 01: "a refused format or restart gives an empty desk".
-unfoldable pub empties : Call → Bool
-empties c = is-format c || is-restart c
 
 -- 01: "A refusal .. changes nothing", but for these two.
 unfoldable pub left-by : (zeroed emptied : Bool) → Refusal → Areas → Desk → Outcome
@@ -48,20 +44,9 @@ restart-zeroes : (a : Areas) (r : Refusal) → first-broken (restart-checks a) �
 unfolding zeroes is-restart every restart-checks refusal-number
 restart-zeroes a r e = of-broken (zeroes restart) (restart-checks a) r refl e
 
--- WHAT A REFUSED CALL LEAVES, a clause a call.
-pub refused : (c : Call) (a : Areas) (d : Desk) (r : Refusal) → first-broken (checks c a d) ≡ some r → outcome c a d ≡ left c r a d
-unfolding left-by zeroes empties is-format is-restart checks first-broken outcome load-areas load-by begin-batch begin-by fetch-slide fetch-by next-slide previous-slide next-slide-by previous-slide-by insert-slide insert-by delete-slide delete-by commit-batch commit-by abort-batch abort-by mark-batch latest-by return-batch return-by write-out-page write-out-by restart-areas restart-by
-refused format a d r e = none-some e
-refused (load ks vs) a d r e = ap (λ o. load-by o ks vs a) e
-refused begin a d r e = ap (λ o. begin-by o a d) e
-refused restart a d r e = ap (λ o. restart-by o a) e ∙ ap (λ z. left-by z true r a d) (sym (restart-zeroes a r e))
-refused (fetch b k) a d r e = ap (λ o. fetch-by o k a d) e
-refused (next b k) a d r e = ap (λ o. next-slide-by o k a d) e
-refused (previous b k) a d r e = ap (λ o. previous-slide-by o k a d) e
-refused (insert b k v) a d r e = ap (λ o. insert-by o b k v a d) e
-refused (delete b k) a d r e = ap (λ o. delete-by o b k a d) e
-refused (commit b) a d r e = ap (λ o. commit-by o b a d) e
-refused (abort b) a d r e = ap (λ o. abort-by o b a d) e
-refused (write-out p) a d r e = ap (λ o. write-out-by o p a d) e
-refused (take-mark b) a d r e = ap (λ o. latest-by o b a d) e
-refused (return-to b m) a d r e = ap (λ o. return-by o b m a d) e
+-- WHAT A REFUSED CALL LEAVES.
+pub refused-is : (c : Call) (a : Areas) (d : Desk) (r : Refusal) → first-broken (checks c a d) ≡ some r → outcome c a d ≡ left c r a d
+unfolding left-by zeroes is-restart refused refused-work refused-desk checks
+refused-is (start s) a d r e = broken-refused (start s) a d r e
+refused-is restart a d r e = broken-refused restart a d r e ∙ ap (λ z. left-by z true r a d) (sym (restart-zeroes a r e))
+refused-is (request q) a d r e = broken-refused (request q) a d r e

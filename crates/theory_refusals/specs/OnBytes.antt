@@ -16,14 +16,15 @@ use Rattle.def_model.specs.declared.Refusal.{Refusal}
 use Rattle.def_model.specs.declared.Refusal.the-variants.{Lengths}
 use Rattle.def_model.specs.declared.Answer.the-variants.{Refused}
 use Rattle.def_model.specs.Answers.{Outcome, refusal-number}
-use Rattle.def_model.specs.OnBytes.{Call, format, begin, restart, fetch, next, previous, insert, delete, commit, abort, write-out, Lent, Result, call, call-by, refused-desk, lengths-ok, read-areas, read-work, read-log, work-bytes, log-bytes, outcome, take-mark, return-to, load}
-use Rattle.def_recovery.specs.Events.{is-format, is-restart}
+use Rattle.def_model.specs.OnBytes.{Call, start, restart, request, Lent, Result, call, call-by, refused-desk, lengths-ok, read-areas, read-work, read-log, work-bytes, log-bytes, outcome}
+use Rattle.def_recovery.specs.Events.{is-restart}
+use Rattle.law_c.specs.RefusedByC.{empties}
 use Rattle.law_areas.specs.Lengths.{lengths-said}
 use Rattle.law_areas.specs.Pages.{zero-pages-bytes}
 use Rattle.law_areas.specs.Working.{work-unlinked, read-work-length}
 use Rattle.law_areas.specs.Logs.{read-log-length, empty-bytes}
 use Rattle.theory_refusals.specs.Order.{refusal-in, first-refused}
-use Rattle.theory_refusals.specs.Left.{zeroes, empties, left-by, refused}
+use Rattle.theory_refusals.specs.Left.{zeroes, left-by, refused-is}
 use Rattle.theory_refusals.specs.Lossless.{work-lossless, log-lossless}
 
 -- 01: "A refusal gives zeros for other answers and changes nothing, except that restart's 3 to 18 zero the working areas; a refused format or
@@ -43,21 +44,10 @@ left-lent c r l d = left-lent-by (zeroes c r) (empties c) r l d
 
 -- 1: nothing is zeroed.
 of-lengths : (c : Call) (l : Lent) (d : Desk) → call-by false c l d ≡ left-lent c Lengths l d
-unfolding call-by refused-desk left-lent-by zeroes empties is-format is-restart refusal-number
-of-lengths format l d = refl
-of-lengths (load ks vs) l d = refl
-of-lengths begin l d = refl
+unfolding call-by refused-desk left-lent-by zeroes is-restart refusal-number
+of-lengths (start s) l d = refl
 of-lengths restart l d = refl
-of-lengths (fetch b k) l d = refl
-of-lengths (next b k) l d = refl
-of-lengths (previous b k) l d = refl
-of-lengths (insert b k v) l d = refl
-of-lengths (delete b k) l d = refl
-of-lengths (commit b) l d = refl
-of-lengths (abort b) l d = refl
-of-lengths (write-out p) l d = refl
-of-lengths (take-mark b) l d = refl
-of-lengths (return-to b m) l d = refl
+of-lengths (request q) l d = refl
 
 -- An outcome, written as bytes.
 abbrev pub on-bytes : Outcome → Result
@@ -101,4 +91,4 @@ refused-leaves c l d r e = go (case (lengths-ok l))
         ap (λ b. call-by b c l d) f ∙ of-lengths c l d ∙ ap (λ s. left-lent c s l d) (some-inj q)
     go (yes! f) =
         let q : refusal-in (outcome c (read-areas l) d .answer) ≡ some r = subst (λ b. refusal-in (call-by b c l d .answer) ≡ some r) f said in
-        ap (λ b. call-by b c l d) f ∙ ap on-bytes (refused c (read-areas l) d r (sym (first-refused c (read-areas l) d) ∙ q)) ∙ left-bytes (zeroes c r) (empties c) r l d f
+        ap (λ b. call-by b c l d) f ∙ ap on-bytes (refused-is c (read-areas l) d r (sym (first-refused c (read-areas l) d) ∙ q)) ∙ left-bytes (zeroes c r) (empties c) r l d f

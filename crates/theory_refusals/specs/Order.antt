@@ -17,26 +17,10 @@ use Rattle.def_model.specs.Areas.{Areas}
 use Rattle.def_model.specs.Answers.{refusal-number, Check, check, first-broken, passed}
 use Rattle.def_model.specs.Lookup.{next-above}
 use Rattle.def_model.specs.Sound.{work-pages}
-use Rattle.def_model.specs.Calls.{before, format-areas, kept-run, stored-run, begin-checks, begin-by, begin-batch, fetch-checks, fetch-by, fetch-slide, next-checks, previous-checks, next-answer, next-slide-by, previous-slide-by, next-slide, previous-slide, insert-checks, insert-by, insert-slide, delete-checks, delete-by, delete-slide, commit-checks, commit-by, commit-batch, abort-checks, abort-by, abort-batch, mark-checks, latest-by, mark-batch, return-checks, return-by, return-batch, write-out-checks, write-out-by, write-out-page, load-checks, load-by, load-areas}
-use Rattle.def_model.specs.Restart.{restart-checks, restart-by, restart-areas}
-use Rattle.def_model.specs.OnBytes.{Call, format, begin, restart, fetch, next, previous, insert, delete, commit, abort, write-out, take-mark, return-to, outcome, Lent, read-areas, lengths-ok, call, call-by, load}
-
--- What each call checks, beside the lengths of the areas.
-unfoldable pub checks : Call → Areas → Desk → List Check
-checks format a d = []
-checks (load ks vs) a d = load-checks ks vs a
-checks begin a d = begin-checks a d
-checks restart a d = restart-checks a
-checks (fetch b k) a d = fetch-checks b k a d
-checks (next b k) a d = next-checks b k a d
-checks (previous b k) a d = previous-checks b k a d
-checks (insert b k v) a d = insert-checks b k a d
-checks (delete b k) a d = delete-checks b k a d
-checks (commit b) a d = commit-checks b a d
-checks (abort b) a d = abort-checks b a d
-checks (write-out p) a d = write-out-checks p a d
-checks (take-mark b) a d = mark-checks b a d
-checks (return-to b m) a d = return-checks b m a d
+use Rattle.def_model.specs.Calls.{format-areas, kept-run, stored-run, begin-checks, begin-batch, fetch-checks, next-checks, next-answer, before, previous-checks, insert-checks, insert-slide, delete-checks, delete-slide, commit-checks, commit-batch, abort-checks, abort-batch, mark-checks, return-checks, return-batch, write-out-checks, write-out-page, load-checks, load-areas}
+use Rattle.def_model.specs.Restart.{restart-checks, restart-areas}
+use Rattle.def_model.specs.OnBytes.{Call, start, restart, request, format, load, Question, fetch, next, previous, take-mark, question-checks, question-answer, ask, begin, insert, delete, commit, abort, write-out, return-to, checks, start-checks, request-checks, does, start-does, request-does, refused, outcome-by, outcome, Lent, read-areas, lengths-ok, call, call-by}
+use Rattle.law_areas.specs.Outcomes.{unbroken-does}
 
 -- On bytes: 1 goes before all others.
 abbrev pub all-checks : Call → Lent → Desk → List Check
@@ -55,21 +39,21 @@ rises n (c ∷ cs) = ltb n (place (c .says)) && rises (place (c .says)) cs
 
 -- IN NUMBER ORDER, of every call.
 pub checks-rise : (c : Call) (l : Lent) (d : Desk) → rises 0 (all-checks c l d) ≡ true
-unfolding rises refusal-number checks load-checks begin-checks restart-checks fetch-checks next-checks previous-checks insert-checks delete-checks commit-checks abort-checks mark-checks return-checks write-out-checks
-checks-rise format l d = refl
-checks-rise (load ks vs) l d = refl
-checks-rise begin l d = refl
+unfolding rises refusal-number checks start-checks request-checks question-checks load-checks begin-checks restart-checks fetch-checks next-checks previous-checks insert-checks delete-checks commit-checks abort-checks mark-checks return-checks write-out-checks
+checks-rise (start format) l d = refl
+checks-rise (start (load ks vs)) l d = refl
 checks-rise restart l d = refl
-checks-rise (fetch b k) l d = refl
-checks-rise (next b k) l d = refl
-checks-rise (previous b k) l d = refl
-checks-rise (insert b k v) l d = refl
-checks-rise (delete b k) l d = refl
-checks-rise (commit b) l d = refl
-checks-rise (abort b) l d = refl
-checks-rise (write-out p) l d = refl
-checks-rise (take-mark b) l d = refl
-checks-rise (return-to b m) l d = refl
+checks-rise (request begin) l d = refl
+checks-rise (request (ask (fetch b k))) l d = refl
+checks-rise (request (ask (next b k))) l d = refl
+checks-rise (request (ask (previous b k))) l d = refl
+checks-rise (request (insert b k v)) l d = refl
+checks-rise (request (delete b k)) l d = refl
+checks-rise (request (commit b)) l d = refl
+checks-rise (request (abort b)) l d = refl
+checks-rise (request (ask (take-mark b))) l d = refl
+checks-rise (request (return-to b m)) l d = refl
+checks-rise (request (write-out p)) l d = refl
 
 -- ---- refused for the first that is broken
 
@@ -101,83 +85,45 @@ not-passed (Number n) p = clash p
 not-passed (Pair n m) p = clash p
 not-passed (Refused r) p = (r, refl)
 
+-- A call that does something answers no refusal.
+step-passes : (e : Option Entry) → refusal-in (next-answer e) ≡ none
+unfolding refusal-in next-answer
+step-passes none = refl
+step-passes (some e) = refl
+
+question-passes : (q : Question) (a : Areas) → refusal-in (question-answer q a) ≡ none
+unfolding refusal-in question-answer
+question-passes (fetch b k) a = refl
+question-passes (next b k) a = step-passes (next-above k (work-pages a))
+question-passes (previous b k) a = step-passes (before k a)
+question-passes (take-mark b) a = refl
+
+does-passes : (c : Call) (a : Areas) (d : Desk) → refusal-in (does c a d .answer) ≡ none
+unfolding refusal-in does start-does request-does format-areas load-areas restart-areas begin-batch insert-slide delete-slide commit-batch abort-batch return-batch write-out-page kept-run stored-run
+does-passes (start format) a d = refl
+does-passes (start (load ks vs)) a d = refl
+does-passes restart a d = refl
+does-passes (request (ask q)) a d = question-passes q a
+does-passes (request begin) a d = refl
+does-passes (request (insert b k v)) a d = refl
+does-passes (request (delete b k)) a d = refl
+does-passes (request (commit b)) a d = refl
+does-passes (request (abort b)) a d = refl
+does-passes (request (return-to b m)) a d = refl
+does-passes (request (write-out p)) a d = refl
+
 -- The typed areas' answer.
 pub first-refused : (c : Call) (a : Areas) (d : Desk) → refusal-in (outcome c a d .answer) ≡ first-broken (checks c a d)
-unfolding refusal-in checks first-broken outcome format-areas load-areas load-by begin-batch begin-by kept-run stored-run fetch-slide fetch-by next-slide previous-slide next-slide-by previous-slide-by next-answer insert-slide insert-by delete-slide delete-by commit-batch commit-by abort-batch abort-by mark-batch latest-by return-batch return-by write-out-page write-out-by restart-areas restart-by
-first-refused format a d = refl
-first-refused (load ks vs) a d = go (first-broken (load-checks ks vs a))
+unfolding refusal-in outcome outcome-by refused
+first-refused c a d = go (first-broken (checks c a d))
   where
-    go : (o : Option Refusal) → refusal-in (load-by o ks vs a .answer) ≡ o
-    go none = refl
+    go : (o : Option Refusal) → refusal-in (outcome-by o c a d .answer) ≡ o
+    go none = does-passes c a d
     go (some r) = refl
-first-refused begin a d = go (first-broken (begin-checks a d))
-  where
-    go : (o : Option Refusal) → refusal-in (begin-by o a d .answer) ≡ o
-    go none = refl
-    go (some r) = refl
-first-refused restart a d = go (first-broken (restart-checks a))
-  where
-    go : (o : Option Refusal) → refusal-in (restart-by o a .answer) ≡ o
-    go none = refl
-    go (some r) = refl
-first-refused (fetch b k) a d = go (first-broken (fetch-checks b k a d))
-  where
-    go : (o : Option Refusal) → refusal-in (fetch-by o k a d .answer) ≡ o
-    go none = refl
-    go (some r) = refl
-first-refused (next b k) a d = go (first-broken (next-checks b k a d))
-  where
-    found : (e : Option Entry) → refusal-in (next-answer e) ≡ none
-    found none = refl
-    found (some e) = refl
 
-    go : (o : Option Refusal) → refusal-in (next-slide-by o k a d .answer) ≡ o
-    go none = found (next-above k (work-pages a))
-    go (some r) = refl
-first-refused (previous b k) a d = go (first-broken (previous-checks b k a d))
-  where
-    found : (e : Option Entry) → refusal-in (next-answer e) ≡ none
-    found none = refl
-    found (some e) = refl
-
-    go : (o : Option Refusal) → refusal-in (previous-slide-by o k a d .answer) ≡ o
-    go none = found (before k a)
-    go (some r) = refl
-first-refused (insert b k v) a d = go (first-broken (insert-checks b k a d))
-  where
-    go : (o : Option Refusal) → refusal-in (insert-by o b k v a d .answer) ≡ o
-    go none = refl
-    go (some r) = refl
-first-refused (delete b k) a d = go (first-broken (delete-checks b k a d))
-  where
-    go : (o : Option Refusal) → refusal-in (delete-by o b k a d .answer) ≡ o
-    go none = refl
-    go (some r) = refl
-first-refused (commit b) a d = go (first-broken (commit-checks b a d))
-  where
-    go : (o : Option Refusal) → refusal-in (commit-by o b a d .answer) ≡ o
-    go none = refl
-    go (some r) = refl
-first-refused (abort b) a d = go (first-broken (abort-checks b a d))
-  where
-    go : (o : Option Refusal) → refusal-in (abort-by o b a d .answer) ≡ o
-    go none = refl
-    go (some r) = refl
-first-refused (write-out p) a d = go (first-broken (write-out-checks p a d))
-  where
-    go : (o : Option Refusal) → refusal-in (write-out-by o p a d .answer) ≡ o
-    go none = refl
-    go (some r) = refl
-first-refused (take-mark b) a d = go (first-broken (mark-checks b a d))
-  where
-    go : (o : Option Refusal) → refusal-in (latest-by o b a d .answer) ≡ o
-    go none = refl
-    go (some r) = refl
-first-refused (return-to b m) a d = go (first-broken (return-checks b m a d))
-  where
-    go : (o : Option Refusal) → refusal-in (return-by o b m a d .answer) ≡ o
-    go none = refl
-    go (some r) = refl
+-- A call that passed broke no check, and did what it does.
+pub passed-does : (c : Call) (a : Areas) (d : Desk) → passed (outcome c a d .answer) ≡ true → (first-broken (checks c a d) ≡ none) × (outcome c a d ≡ does c a d)
+passed-does c a d p = let e = sym (first-refused c a d) ∙ passed-none (outcome c a d .answer) p in (e, unbroken-does c a d e)
 
 -- REFUSED FOR THE FIRST CHECK THAT IS BROKEN: a call on bytes answers its refusal, and is not refused where none is broken.
 pub refused-first : (c : Call) (l : Lent) (d : Desk) → refusal-in (call c l d .answer) ≡ first-broken (all-checks c l d)

@@ -21,13 +21,13 @@ use Rattle.def_model.specs.Answers.{first-broken}
 use Rattle.def_model.specs.Areas.{store-page, block-ok, blocks-ok}
 use Rattle.def_model.specs.Sound.{layouts-ok, sound}
 use Rattle.def_model.specs.Restart.{restart-checks}
-use Rattle.def_model.specs.OnBytes.{restart, Lent, parts, read-pages, read-work, read-areas, lengths-ok, call, put-part, store-bytes}
+use Rattle.def_model.specs.OnBytes.{restart, checks, Lent, parts, read-pages, read-work, read-areas, lengths-ok, call, put-part, store-bytes}
 use Rattle.law_bytes.specs.Same.{same-true}
 use Rattle.law_bytes.specs.PageBytes.{word-0, page-bytes-length}
 use Rattle.law_bytes.specs.LeftLinks.{left-low, left-said}
 use Rattle.law_bytes.specs.LeftFields.{without-word}
 use Rattle.law_areas.specs.Pages.{read-pages-length}
-use Rattle.theory_refusals.specs.Order.{checks, refused-exactly}
+use Rattle.theory_refusals.specs.Order.{refused-exactly}
 
 -- Bytes that show a link are not those of the fields that they show.
 linked-other : (b : List ℕ) (n p : ℕ) → 0 < left-in b → block-ok n p (read-block b) ≡ false

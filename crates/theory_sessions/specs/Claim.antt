@@ -7,7 +7,7 @@ use lib.Dec.{leb}
 use Rattle.def_base.specs.Tests.{every, and-true, and-both, true-le}
 use Rattle.def_layout.specs.declared.Desk.{Desk}
 use Rattle.def_model.specs.OnBytes.{Lent}
-use Rattle.def_recovery.specs.Events.{Rubble, is-format, fits-32, of-32-bits, formatted}
+use Rattle.def_recovery.specs.Events.{Rubble, is-format, fits-32, question-32, request-32, of-32-bits, formatted}
 use Rattle.def_sessions.specs.Play.{Session, shows, comes-true, new, play}
 use Rattle.def_sessions.specs.OnBytes.{LentFor, AllLeave, events, machine-after, HoldsOnBytes}
 use Rattle.def_sessions.specs.Table.{any-key, rows, table}
@@ -67,11 +67,11 @@ all-hold (s ∷ ss) k c =
 -- ---- the table
 
 rows-playable : every playable rows ≡ true
-unfolding every playable step-askable askable of-32-bits is-format
+unfolding every playable step-askable askable of-32-bits request-32 question-32 is-format
 rows-playable = refl
 
 key-playable : (k : ℕ) → fits-32 k ≡ true → playable (any-key k) ≡ true
-unfolding every playable step-askable askable of-32-bits is-format
+unfolding every playable step-askable askable of-32-bits request-32 question-32 is-format
 key-playable k h = rw h
 
 -- Every row, the first for every key of 32 bits; for any bytes lent, any desk, and anything left by the cuts.

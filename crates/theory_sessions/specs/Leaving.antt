@@ -34,9 +34,9 @@ use Rattle.theory_calls.specs.LiveAreas.{side-after, run-left}
 use Rattle.theory_recovery.specs.Invariant.{Inv}
 use Rattle.theory_refusals.specs.Lossless.{work-lossless, log-lossless}
 use Rattle.theory_recovery.specs.Passed.{ranged-run}
-use Rattle.theory_recovery.specs.Going.{does, Going}
+use Rattle.theory_recovery.specs.Going.{outcome-in, Going}
 use Rattle.theory_recovery.specs.Steps.{goes}
-use Rattle.theory_sessions.specs.Unpassed.{zeroed-side, refused-work, refused-stores}
+use Rattle.theory_sessions.specs.Unpassed.{zeroed-side, work-refused, refused-stores}
 use Rattle.theory_sessions.specs.StoresRead.{StoreFits, fits-append, log-fits}
 
 -- A working side that is read back from its bytes, of n pages and m slots.
@@ -105,28 +105,28 @@ module _ (n m : ℕ) (l : Lent) (z : Lengths l n m) where
 -- ---- a refused call
 
 module _ (w : World) (n m : ℕ) (z : Lengths (w .lent) n m) (c : Call) where
-  refused-reads : passed (does c w .answer) ≡ false → LeavesRead n m (does c w)
+  refused-reads : passed (outcome-in c w .answer) ≡ false → LeavesRead n m (outcome-in c w)
   unfolding All
-  refused-reads p = record { work = go (refused-work c (read-areas (w .lent)) (w .desk) p); stores = subst (All (StoreFits n m)) (sym (refused-stores c (read-areas (w .lent)) (w .desk) p)) tt }
+  refused-reads p = record { work = go (work-refused c (read-areas (w .lent)) (w .desk) p); stores = subst (All (StoreFits n m)) (sym (refused-stores c (read-areas (w .lent)) (w .desk) p)) tt }
     where
-      go : (does c w .work ≡ read-areas (w .lent) .work) ⊎ (does c w .work ≡ zeroed-side (read-areas (w .lent) .work)) → SideRead n m (does c w .work)
+      go : (outcome-in c w .work ≡ read-areas (w .lent) .work) ⊎ (outcome-in c w .work ≡ zeroed-side (read-areas (w .lent) .work)) → SideRead n m (outcome-in c w .work)
       go (inl e) = subst (SideRead n m) (sym e) (lent-side-read n m (w .lent) z)
       go (inr e) = subst (SideRead n m) (sym (e ∙ (λ i. zero-side (pages-count n m (w .lent) z i) (log-count n m (w .lent) z i)))) (zero-side-read n m)
 
 -- ---- a call that passed
 
 module _ (w : World) (i : Inv w) (c : Call) (g : Going (i .origin) w (i .log) c) where
-  passed-reads : LeavesRead (g .n) (g .m) (does c w)
+  passed-reads : LeavesRead (g .n) (g .m) (outcome-in c w)
   unfolding run-side All StoreFits
   passed-reads =
       let o = i .origin in
       let e = g .ends in
-      let h = ranged-run o (g .n) (g .m) (w .lent) (g .lengths) (i .log) (g .sure) (g .log) (g .rest) (g .longer) (g .fixed) (g .ranged) c (does c w) e (w .book) (i .slides) (g .tells) in
+      let h = ranged-run o (g .n) (g .m) (w .lent) (g .lengths) (i .log) (g .sure) (g .log) (g .rest) (g .longer) (g .fixed) (g .ranged) c (outcome-in c w) e (w .book) (i .slides) (g .tells) in
       let f = ranged-standing o (g .n) (g .sure .most) (e .run) _ (e .standing) h in
       let count : length (e .run .pages) ≡ g .n = ap length (e .standing .pages) ∙ length-after o (g .n) (e .run .log) in
       record {
         work = subst (SideRead (g .n) (g .m)) (sym (e .work ∙ run-left o (g .n) (g .m) (g .sure .most) (e .run) (e .standing .pages) (e .standing .history))) (held-read o (g .n) (g .m) (g .sure .most) (e .run .log) (e .standing .history) (e .within) (subst AllPagesFit (e .standing .pages) (f .pages)) (f .records));
-        stores = go (e .run) (f .pages) (f .records) count (e .within) (longer (e .run) (does c w .stores) (e .follows)) (does c w .stores) (e .stored);
+        stores = go (e .run) (f .pages) (f .records) count (e .within) (longer (e .run) (outcome-in c w .stores) (e .follows)) (outcome-in c w .stores) (e .stored);
       }
     where
       longer : (t : Run) (ts : List Store) → Follows (i .origin) (i .log) c (g .log) t ts → length (i .log) ≤ length (t .log)
@@ -139,13 +139,13 @@ module _ (w : World) (i : Inv w) (c : Call) (g : Going (i .origin) w (i .log) c)
       go t f r e h k _ (log-and-page p q) = fits-append (g .n) (g .m) (log-stores (length (i .log)) (t .log)) (store-page p (at (t .pages) p) ∷ []) (log-fits (g .n) (g .m) (length (i .log)) (t .log) r k h) ((q, f p (omega arith)), tt)
 
 -- ANY CALL THAT IS GRANTED.
-pub call-reads : (w : World) (i : Inv w) (n m : ℕ) → Lengths (w .lent) n m → (c : Call) → Granted c w → LeavesRead n m (does c w)
-call-reads w i n m z c g = go (case (passed (does c w .answer)))
+pub call-reads : (w : World) (i : Inv w) (n m : ℕ) → Lengths (w .lent) n m → (c : Call) → Granted c w → LeavesRead n m (outcome-in c w)
+call-reads w i n m z c g = go (case (passed (outcome-in c w .answer)))
   where
-    go : Case (passed (does c w .answer)) → LeavesRead n m (does c w)
+    go : Case (passed (outcome-in c w .answer)) → LeavesRead n m (outcome-in c w)
     go (no! p) = refused-reads w n m z c p
     go (yes! p) =
         let x = goes w i c g (lengths-enough (w .lent) n m z) p in
         let a : x .n ≡ n = omega (arith, x .lengths .work-pages, z .work-pages) in
         let b : x .m ≡ m = omega (arith, x .lengths .work-log, z .work-log) in
-        subst₂ (λ (u v : ℕ). LeavesRead u v (does c w)) a b (passed-reads w i c x)
+        subst₂ (λ (u v : ℕ). LeavesRead u v (outcome-in c w)) a b (passed-reads w i c x)

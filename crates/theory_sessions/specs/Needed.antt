@@ -12,7 +12,8 @@ use Rattle.def_model.specs.Answers.{answer-numbers, passed}
 use Rattle.def_model.specs.Sound.{work-pages}
 use Rattle.def_model.specs.TreeRules.{leaf-records}
 use Rattle.def_model.specs.Restart.{stable-log}
-use Rattle.def_model.specs.OnBytes.{Call, begin, restart, insert, delete, commit, write-out, outcome}
+use Rattle.def_model.specs.OnBytes.{Call, outcome}
+use Rattle.def_model.specs.CallNames.{begin, restart, insert, delete, commit, write-out}
 use Rattle.def_recovery.specs.Demand3.{is-commit-of}
 use Rattle.def_sessions.specs.Play.{Step, ask, Machine, play, new}
 use Rattle.def_sessions.specs.Compute.{computed}

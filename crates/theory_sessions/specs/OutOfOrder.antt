@@ -14,14 +14,15 @@ use Rattle.def_model.specs.Areas.{Store, store-page, store-slot, store-all}
 use Rattle.def_model.specs.Answers.{answer-numbers, passed}
 use Rattle.def_model.specs.Log.{records-of}
 use Rattle.def_model.specs.Restart.{stable-log}
-use Rattle.def_model.specs.OnBytes.{Call, restart, commit, write-out, outcome, Lent, call-by, read-areas, lengths-ok, store-bytes, store-all-bytes}
-use Rattle.def_recovery.specs.Events.{World, Rubble, result, passes, formatted, happen-all, of-32-bits, is-format}
+use Rattle.def_model.specs.CallNames.{restart, commit, write-out}
+use Rattle.def_model.specs.OnBytes.{Call, outcome, Lent, call-by, read-areas, lengths-ok, store-bytes, store-all-bytes}
+use Rattle.def_recovery.specs.Events.{World, Rubble, result, passes, formatted, happen-all, request-32, of-32-bits, is-format}
 use Rattle.def_recovery.specs.Demand3.{reason, FinishesOrWants, is-commit-of, commit-stored}
 use Rattle.def_sessions.specs.Play.{Machine, new}
 use Rattle.def_sessions.specs.OnBytes.{AllLeave, events}
 use Rattle.law_bytes.specs.Pieces.{All}
 use Rattle.law_areas.specs.Lengths.{Lengths, lengths-enough}
-use Rattle.theory_recovery.specs.Going.{does}
+use Rattle.theory_recovery.specs.Going.{outcome-in}
 use Rattle.theory_recovery.specs.Steps.{result-by}
 use Rattle.theory_sessions.specs.StoresRead.{StoreFits, stores-read, fits-append, fits-first}
 use Rattle.theory_sessions.specs.Leaving.{pages-count, log-count, call-reads}
@@ -73,7 +74,7 @@ module _ (n m : ℕ) (w : World) (x : Machine) (t : Tied n m w (x .areas) (x .de
   unfolding stored-only
   stable-is = let z = t .lengths in stores-read n m ts (w .lent) fits (z .stable-pages) (z .stable-log) .side ∙ ap (λ a. store-all ts (a .stable)) (t .areas)
 
-  restart-is : does restart (stored-world ts w) ≡ outcome restart (stored-only ts x) (x .desk)
+  restart-is : outcome-in restart (stored-world ts w) ≡ outcome restart (stored-only ts x) (x .desk)
   unfolding stored-only
   restart-is =
       let z = t .lengths in
@@ -93,7 +94,7 @@ module _ (n m : ℕ) (w : World) (x : Machine) (t : Tied n m w (x .areas) (x .de
 -- ---- stores out of order
 
 only-asks : every step-askable to-one-slide ≡ true
-unfolding every step-askable askable of-32-bits is-format to-one-slide
+unfolding every step-askable askable of-32-bits request-32 is-format to-one-slide
 only-asks = refl
 
 -- Nothing is cut.
@@ -117,7 +118,7 @@ module _ (l : Lent) (d : Desk) (z : Lengths l 16 80) where
   abbrev pub owed : Call → List Store
   owed c = result c begun .stores
 
-  owed-does : (c : Call) → owed c ≡ does c begun .stores
+  owed-does : (c : Call) → owed c ≡ outcome-in c begun .stores
   unfolding call-by
   owed-does c = ap (λ r. r .stores) (result-by c begun true (lengths-enough (begun .lent) 16 80 (tied .lengths)))
 
@@ -130,14 +131,14 @@ module _ (l : Lent) (d : Desk) (z : Lengths l 16 80) where
 
   -- A PAGE WITHOUT ITS RECORDS: the last of write-out's stores, and neither of the two before it.
   pub page-alone : reason (stored-world (drop 2 (owed (write-out 1))) begun) ≡ 4
-  unfolding of-32-bits is-format
+  unfolding of-32-bits request-32 is-format
   page-alone =
       reason-is 16 80 begun one-slide tied (drop 2 (owed (write-out 1))) (fits-rest 16 80 2 (owed (write-out 1)) (owed-fits (write-out 1) refl refl))
       ∙ ap (λ ts. reason-of (stored-only (drop 2 ts) one-slide) one-slide) (owed-is (write-out 1)) ∙ page-first
 
   -- A RECORD WITHOUT THE ONE BEFORE IT: the first and the last of commit's three stores.
   pub record-alone : reason (stored-world (take 1 (owed (commit 1)) ++ drop 2 (owed (commit 1))) begun) ≡ 4
-  unfolding of-32-bits is-format
+  unfolding of-32-bits request-32 is-format
   record-alone =
       let f = owed-fits (commit 1) refl refl in
       reason-is 16 80 begun one-slide tied (take 1 (owed (commit 1)) ++ drop 2 (owed (commit 1)))
@@ -146,7 +147,7 @@ module _ (l : Lent) (d : Desk) (z : Lengths l 16 80) where
 
   -- A COMMIT THAT WAS REPORTED, AND NOT ALL OF ITS STORES: two of three.
   pub reported-unstored : (passes (commit 1) begun ≡ true) × (commit-stored 1 (stored-world (take 2 (owed (commit 1))) begun) ≡ false)
-  unfolding of-32-bits is-format call-by
+  unfolding of-32-bits request-32 is-format call-by
   reported-unstored = (
     ap (λ r. passed (r .answer)) (result-by (commit 1) begun true (lengths-enough (begun .lent) 16 80 (tied .lengths))) ∙ (λ i. passed (outcome (commit 1) (tied .areas i) (tied .desk i) .answer)) ∙ commit-reported,
     stored-is 16 80 begun one-slide tied (take 2 (owed (commit 1))) (fits-first 16 80 2 (owed (commit 1)) (owed-fits (commit 1) refl refl)) 1

@@ -13,14 +13,14 @@ use Rattle.def_layout.specs.Pages.{zero-page}
 use Rattle.def_layout.specs.RecordBytes.{empty}
 use Rattle.def_model.specs.Areas.{Areas, zero-side, store-some}
 use Rattle.def_model.specs.Answers.{answer-numbers}
-use Rattle.def_model.specs.OnBytes.{Call, restart, outcome, read-areas}
+use Rattle.def_model.specs.OnBytes.{Call, start, restart, request, outcome, read-areas}
 use Rattle.def_recovery.specs.Events
 use Rattle.def_recovery.specs.Events.{World, Rubble, Granted, Allowed, AllAllowed, happen, happen-all, is-format, is-restart, of-32-bits, end-call, cut-call}
 use Rattle.def_sessions.specs.Play.{Step, ask, cut, forge-page, forge-slot, forge-low-bits, Machine, numbers, ended, cut-off, play-step, play}
 use Rattle.def_sessions.specs.OnBytes.{restart-next, Leaves, AllLeave, events, answered, all-answered}
 use Rattle.law_areas.specs.Lengths.{Lengths}
 use Rattle.theory_recovery.specs.Invariant.{Inv}
-use Rattle.theory_recovery.specs.Going.{only-restart, does}
+use Rattle.theory_recovery.specs.Going.{outcome-in}
 use Rattle.theory_sessions.specs.Leaving.{pages-count, log-count}
 use Rattle.theory_sessions.specs.Tie.{Calm, Tied, Cut, calm-granted, restart-granted, restart-same, end-answer, ended-tied, cut-off as cut-shown, cut-zeroed}
 
@@ -45,11 +45,17 @@ pub record Finds (n m : ℕ) (c : Call) (w : World) (a : Areas) (d : Desk) : Typ
   pub inv : Inv w
   pub lengths : Lengths (w .lent) n m
   pub granted : Granted c w
-  pub is : does c w ≡ outcome c a d
+  pub is : outcome-in c w ≡ outcome c a d
   pub stable : read-areas (w .lent) .stable ≡ a .stable
   pub pages : length (a .work .pages) ≡ n
   pub log : length (a .work .log) ≡ m
   pub calm : Calm n m w ⊎ (c ≡ restart)
+
+only-restart : (c : Call) → is-restart c ≡ true → c ≡ restart
+unfolding is-restart
+only-restart (start s) e = clash (sym e)
+only-restart restart e = refl
+only-restart (request q) e = clash (sym e)
 
 pub finds : (n m : ℕ) (c : Call) (w : World) (a : Areas) (d : Desk) → askable c ≡ true → Ready n m (is-restart c) w a d → Finds n m c w a d
 unfolding askable
@@ -75,7 +81,7 @@ finds n m c w a d k (halved t e) =
       inv = t .inv;
       lengths = t .lengths;
       granted = subst (λ x. Granted x w) (sym q) (restart-granted w);
-      is = subst (λ x. does x w ≡ outcome x a d) (sym q) (restart-same (read-areas (w .lent)) a (w .desk) d (t .stable) (pages-count n m (w .lent) (t .lengths) ∙ sym (t .pages)) (log-count n m (w .lent) (t .lengths) ∙ sym (t .log)));
+      is = subst (λ x. outcome-in x w ≡ outcome x a d) (sym q) (restart-same (read-areas (w .lent)) a (w .desk) d (t .stable) (pages-count n m (w .lent) (t .lengths) ∙ sym (t .pages)) (log-count n m (w .lent) (t .lengths) ∙ sym (t .log)));
       stable = t .stable;
       pages = t .pages;
       log = t .log;

@@ -16,13 +16,15 @@ use Rattle.def_layout.specs.Sizes.{page-size, slot-size}
 use Rattle.def_model.specs.declared.Answer.the-variants.{Done}
 use Rattle.def_model.specs.Areas.{Side, Store, store-some, store-all}
 use Rattle.def_model.specs.Links.{relinked}
-use Rattle.def_model.specs.Answers.{Outcome, passed}
+use Rattle.def_model.specs.Answers.{Outcome, first-broken, passed}
 use Rattle.def_model.specs.Log.{slots-from, log-area}
 use Rattle.def_model.specs.Redo.{replay}
 use Rattle.def_model.specs.Calls.{start-side, formatted-pages, format-stores, format-areas}
-use Rattle.def_model.specs.OnBytes.{format, outcome, Lent, Result, call, call-by, read-areas, pages-bytes, work-bytes, log-bytes, lent-after, store-all-bytes}
+use Rattle.def_model.specs.OnBytes as groups
+use Rattle.def_model.specs.CallNames.{format}
+use Rattle.def_model.specs.OnBytes.{checks, start-checks, does, start-does, outcome-by, outcome, Lent, Result, call, call-by, read-areas, pages-bytes, work-bytes, log-bytes, lent-after, store-all-bytes}
 use Rattle.def_recovery.specs.Book.{new-book}
-use Rattle.def_recovery.specs.Events.{World, started, first-slides, formatted, is-format, of-32-bits}
+use Rattle.def_recovery.specs.Events.{World, started, first-slides, formatted, start-32, of-32-bits}
 use Rattle.def_sessions.specs.Play.{ended, new}
 use Rattle.law_bytes.specs.Pieces.{All}
 use Rattle.law_areas.specs.Lengths.{Lengths, lengths-enough}
@@ -97,11 +99,11 @@ module _ (n m : ℕ) (least : 2 ≤ n) (most : n ≤ map-bits) where
       (held-read o n m most [] (start-history o n least most) (omega arith) (ranged-now o n [] (ranged-history-start o n) .pages) tt)
 
   new-desk : new n m .desk ≡ empty-desk
-  unfolding new ended outcome format-areas
+  unfolding new ended outcome outcome-by checks start-checks first-broken does start-does format-areas
   new-desk = refl
 
   new-areas : new n m .areas ≡ record { work = made n m .work; stable = store-some (length ts) ts zeros-stored }
-  unfolding new ended outcome format-areas ts
+  unfolding new ended outcome outcome-by checks start-checks first-broken does start-does format-areas ts
   new-areas =
       let p = length-replicate n (page zero-page) in
       let q = length-replicate m empty in
@@ -116,7 +118,7 @@ module _ (n m : ℕ) (l : Lent) (d : Desk) (z : Lengths l n m) where
   most = z .most-pages
 
   is-made : outcome format (read-areas l) d ≡ made n m
-  unfolding outcome format-areas read-areas
+  unfolding outcome outcome-by checks start-checks first-broken does start-does format-areas read-areas
   is-made = let p = read-work-length n (l .work-pages) (z .work-pages) in let q = read-log-length m (l .work-log) (z .work-log) in λ i. made (p i) (q i)
 
   -- The world that a formatting leaves, by its outcome.
@@ -134,13 +136,13 @@ module _ (n m : ℕ) (l : Lent) (d : Desk) (z : Lengths l n m) where
   passes = ap (λ b. passed (call-by b format l d .answer)) (lengths-enough l n m z) ∙ ap (λ o. passed (o .answer)) is-made
 
   pub formatted-tied : Tied n m (formatted l d) (new n m .areas) (new n m .desk)
-  unfolding world-by lent-after read-areas ts is-format of-32-bits
+  unfolding world-by lent-after read-areas ts of-32-bits start-32
   formatted-tied =
       let s = made-read n m least most in
       let t = stores-read n m (take (length (ts n m least most)) (ts n m least most)) l (fits-first n m (length (ts n m least most)) (ts n m least most) (fits n m least most)) (z .stable-pages) (z .stable-log) in
       let e = same-first n m least most l (z .stable-pages) (z .stable-log) in
       record {
-        inv = begun format l d refl refl passes;
+        inv = begun groups.format l d refl passes;
         lengths = subst (λ (w : World). Lengths (w .lent) n m) (sym formatted-by) (record {
           work-pages = s .pages-length;
           stable-pages = t .pages-length;

@@ -14,15 +14,16 @@ use Rattle.def_layout.specs.Sizes.{page-size, slot-size}
 use Rattle.def_model.specs.Areas.{pages-of}
 use Rattle.def_model.specs.Answers.{Outcome, answer-numbers}
 use Rattle.def_model.specs.TreeRules.{leaf-records}
-use Rattle.def_model.specs.OnBytes.{begin, restart, previous, insert, delete, commit, write-out, outcome, Lent, call-by, lengths-ok, read-work}
+use Rattle.def_model.specs.OnBytes.{outcome, Lent, call-by, lengths-ok, read-work}
+use Rattle.def_model.specs.CallNames.{begin, restart, previous, insert, delete, commit, write-out}
 use Rattle.def_recovery.specs.Events
-use Rattle.def_recovery.specs.Events.{World, Rubble, Event, result, Allowed, AllAllowed, happen, happen-all, formatted, is-restart, is-format, of-32-bits}
+use Rattle.def_recovery.specs.Events.{World, Rubble, Event, result, Allowed, AllAllowed, happen, happen-all, formatted, is-restart, is-format, question-32, request-32, of-32-bits}
 use Rattle.def_recovery.specs.Demand3.{reason}
 use Rattle.def_sessions.specs.Play.{Step, ask, cut, Machine, play, new}
 use Rattle.def_sessions.specs.Compute.{computed}
 use Rattle.def_sessions.specs.OnBytes.{Leaves, AllLeave, restart-next, events}
 use Rattle.law_areas.specs.Lengths.{Lengths, lengths-enough}
-use Rattle.theory_recovery.specs.Going.{does}
+use Rattle.theory_recovery.specs.Going.{outcome-in}
 use Rattle.theory_recovery.specs.Steps.{result-by}
 use Rattle.theory_recovery.specs.Theorem.{leaves}
 use Rattle.theory_sessions.specs.Leaving.{call-reads}
@@ -93,11 +94,11 @@ unfolding further end grown-half half first-steps later-steps committed computed
 further-leaves = refl
 
 first-askable : every step-askable first-steps ≡ true
-unfolding every step-askable askable of-32-bits is-format first-steps
+unfolding every step-askable askable of-32-bits request-32 question-32 is-format first-steps
 first-askable = refl
 
 later-askable : every step-askable later-steps ≡ true
-unfolding every step-askable askable of-32-bits is-format later-steps
+unfolding every step-askable askable of-32-bits request-32 is-format later-steps
 later-askable = refl
 
 -- ---- on bytes
@@ -132,7 +133,7 @@ module _ (l : Lent) (d : Desk) (before after : ℕ → Rubble) (z : Lengths l 16
   lens : lengths-ok (last .lent) ≡ true
   lens = lengths-enough (last .lent) 17 84 (tied .lengths)
 
-  is-further : does restart last ≡ further
+  is-further : outcome-in restart last ≡ further
   unfolding further
   is-further = λ i. outcome restart (tied .areas i) (tied .desk i)
 

@@ -17,11 +17,12 @@ use Rattle.def_model.specs.Batches.{open-batches, told, desk-of, pending-count}
 use Rattle.def_model.specs.Update.{Run}
 use Rattle.def_model.specs.Sound.{sound, same-slots}
 use Rattle.def_model.specs.Loading.{columns, loaded-pages}
-use Rattle.def_model.specs.Answers.{passed}
-use Rattle.def_model.specs.Calls.{run-side, start-side, formatted-pages, page-stores, format-stores, format-areas, load-by, load-areas}
-use Rattle.def_model.specs.OnBytes.{format, load, outcome}
+use Rattle.def_model.specs.Answers.{first-broken, passed}
+use Rattle.def_model.specs.Calls.{run-side, start-side, formatted-pages, page-stores, format-stores, format-areas, load-areas}
+use Rattle.def_model.specs.OnBytes.{start, format, load, checks, start-checks, does, start-does, outcome-by, outcome}
 use Rattle.def_recovery.specs.Events.{of-32-bits}
 use Rattle.theory_history.specs.Origin.{Origin, origin-pages}
+use Rattle.theory_refusals.specs.Order.{passed-does}
 use Rattle.theory_history.specs.FormattedOrigin.{formatted-origin, formatted-is}
 use Rattle.theory_history.specs.Start.{slides-after, pages-after}
 use Rattle.theory_history.specs.Core.{Core}
@@ -29,7 +30,7 @@ use Rattle.theory_history.specs.History.{history-now, core-same, run-after}
 use Rattle.theory_history.specs.Growing.{start-history}
 use Rattle.law_areas.specs.Typed.{log-back}
 use Rattle.def_model.specs.Redo.{replay}
-use Rattle.theory_load.specs.Checked.{load-passes, load-starts}
+use Rattle.theory_load.specs.Checked.{load-starts}
 use Rattle.theory_sound.specs.StoredPart.{Stores, stores-ok, slots-same}
 use Rattle.theory_sound.specs.ToSound.{sound-again}
 use Rattle.theory_sound.specs.SoundAfter.{Reserved, used-within, reserves-hold}
@@ -107,8 +108,8 @@ module _ (o : Origin) (n m : ℕ) (least : o .least ≤ n) (few : n ≤ map-bits
       ∙ sound-again n m few t (slides-after o []) core fits stable 0 (stores-ok (record { work = run-side m t; stable = stable }) (desk-of (t .log) 0) (t .log) (log-back m (t .log)) stored) (reserves-hold m (t .pages) (t .log) (open-batches (t .log)) reserves)
 
 -- A FORMATTED REGISTER IS SOUND.
-pub format-sound : (a : Areas) (d : Desk) → 2 ≤ length (a .work .pages) → length (a .work .pages) ≤ map-bits → length (a .stable .log) ≡ length (a .work .log) → sound (areas-after format a d) (outcome format a d .desk) ≡ true
-unfolding outcome format-areas formatted-origin desk-of open-batches told eight-rows tab
+pub format-sound : (a : Areas) (d : Desk) → 2 ≤ length (a .work .pages) → length (a .work .pages) ≤ map-bits → length (a .stable .log) ≡ length (a .work .log) → sound (areas-after (start format) a d) (outcome (start format) a d .desk) ≡ true
+unfolding outcome outcome-by checks start-checks first-broken does start-does format-areas formatted-origin desk-of open-batches told eight-rows tab
 format-sound a d least few equal =
     let n = length (a .work .pages) in
     let m = length (a .work .log) in
@@ -117,9 +118,9 @@ format-sound a d least few equal =
     ∙ origin-sound formatted-origin n m least few stable (formatted-log (formatted-pages n) m (a .stable) equal)
 
 -- A LOADED REGISTER IS SOUND.
-pub load-sound : (ks vs : List ℕ) (a : Areas) (d : Desk) → of-32-bits (load ks vs) ≡ true → length (a .work .pages) ≤ map-bits → length (a .stable .log) ≡ length (a .work .log) → passed (outcome (load ks vs) a d .answer) ≡ true
-    → sound (areas-after (load ks vs) a d) (outcome (load ks vs) a d .desk) ≡ true
-unfolding outcome load-areas load-by desk-of open-batches told eight-rows tab
+pub load-sound : (ks vs : List ℕ) (a : Areas) (d : Desk) → of-32-bits (start (load ks vs)) ≡ true → length (a .work .pages) ≤ map-bits → length (a .stable .log) ≡ length (a .work .log) → passed (outcome (start (load ks vs)) a d .answer) ≡ true
+    → sound (areas-after (start (load ks vs)) a d) (outcome (start (load ks vs)) a d .desk) ≡ true
+unfolding does start-does load-areas desk-of open-batches told eight-rows tab
 load-sound ks vs a d fits few equal p =
     let n = length (a .work .pages) in
     let m = length (a .work .log) in
@@ -129,4 +130,4 @@ load-sound ks vs a d fits few equal p =
     let s : sound (record { work = start-side pages m; stable = stable }) (desk-of [] 0) ≡ true =
     (λ i. sound (record { work = start-side (x .pages-are i) m; stable = stable }) (desk-of [] 0))
     ∙ origin-sound (x .origin) n m (x .enough) few stable (formatted-log pages m (a .stable) equal) in
-    subst (λ o. let y = load-by o ks vs a in sound (record { work = y .work; stable = store-all (y .stores) (a .stable) }) (y .desk) ≡ true) (sym (load-passes ks vs a d p)) s
+    subst (λ y. sound (record { work = y .work; stable = store-all (y .stores) (a .stable) }) (y .desk) ≡ true) (sym (passed-does (start (load ks vs)) a d p .1)) s

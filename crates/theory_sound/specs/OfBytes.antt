@@ -1,6 +1,6 @@
 -- EVERY CALL THAT IS NOT REFUSED LEAVES SOUND AREAS AND A SOUND DESK, of areas as callers lend them: bytes, of any content.
 use Prim.Native.Nat.{ℕ, suc, _/_, _≤_, _<_}
-use mathlib.Core.Path.{_≡_, refl, sym, _∙_, subst}
+use mathlib.Core.Path.{_≡_, sym, _∙_, subst}
 use mathlib.Core.Bool.{true, false}
 use mathlib.Core.List.{List, [], _∷_, map}
 use native.Mathlib.Omega.{arith}
@@ -17,9 +17,9 @@ use Rattle.def_model.specs.Batches.{Batch, tell, told, open-batches, written, u
 use Rattle.def_model.specs.Answers.{passed}
 use Rattle.def_model.specs.Sound.{sound}
 use Rattle.def_model.specs.OnBytes
-use Rattle.def_model.specs.OnBytes.{Call, Lent, lengths-ok, parts, read-log, read-areas, outcome}
+use Rattle.def_model.specs.OnBytes.{Call, start, request, Lent, lengths-ok, parts, read-log, read-areas, outcome}
 use Rattle.def_model.specs.Restart.{stable-log}
-use Rattle.def_recovery.specs.Events.{of-32-bits, is-format, is-restart}
+use Rattle.def_recovery.specs.Events.{of-32-bits}
 use Rattle.law_bytes.specs.Same.{same-true}
 use Rattle.theory_ledger.specs.Small.{Small, SmallLines, small-change, small-drop, small-end, small-rest}
 use Rattle.theory_room.specs.Restarting.{low-stable}
@@ -139,18 +139,8 @@ module _ (l : Lent) (lens : lengths-ok l ≡ true) where
 
   -- THE WHOLE: any call.
   pub calls-leave-sound : (c : Call) (d : Desk) → of-32-bits c ≡ true → passed (outcome c (read-areas l) d .answer) ≡ true → sound (areas-after c (read-areas l) d) (outcome c (read-areas l) d .desk) ≡ true
-  unfolding is-format is-restart
-  calls-leave-sound OnBytes.format d k p = let e = pages-of-work in let m = z .most-pages in let j = z .least-pages in format-sound (read-areas l) d (omega arith) (omega arith) logs-equal
-  calls-leave-sound (OnBytes.load ks vs) d k p = let e = pages-of-work in let m = z .most-pages in load-sound ks vs (read-areas l) d k (omega arith) logs-equal p
+  unfolding of-32-bits
+  calls-leave-sound (start OnBytes.format) d k p = let e = pages-of-work in let m = z .most-pages in let j = z .least-pages in format-sound (read-areas l) d (omega arith) (omega arith) logs-equal
+  calls-leave-sound (start (OnBytes.load ks vs)) d k p = let e = pages-of-work in let m = z .most-pages in load-sound ks vs (read-areas l) d k (omega arith) logs-equal p
   calls-leave-sound OnBytes.restart d k p = restart-sound (read-areas l) d readable p
-  calls-leave-sound OnBytes.begin d k p = sound-kept OnBytes.begin (read-areas l) d refl refl k lendable p
-  calls-leave-sound (OnBytes.fetch a b) d k p = sound-kept (OnBytes.fetch a b) (read-areas l) d refl refl k lendable p
-  calls-leave-sound (OnBytes.next a b) d k p = sound-kept (OnBytes.next a b) (read-areas l) d refl refl k lendable p
-  calls-leave-sound (OnBytes.previous a b) d k p = sound-kept (OnBytes.previous a b) (read-areas l) d refl refl k lendable p
-  calls-leave-sound (OnBytes.insert a b v) d k p = sound-kept (OnBytes.insert a b v) (read-areas l) d refl refl k lendable p
-  calls-leave-sound (OnBytes.delete a b) d k p = sound-kept (OnBytes.delete a b) (read-areas l) d refl refl k lendable p
-  calls-leave-sound (OnBytes.commit a) d k p = sound-kept (OnBytes.commit a) (read-areas l) d refl refl k lendable p
-  calls-leave-sound (OnBytes.abort a) d k p = sound-kept (OnBytes.abort a) (read-areas l) d refl refl k lendable p
-  calls-leave-sound (OnBytes.write-out a) d k p = sound-kept (OnBytes.write-out a) (read-areas l) d refl refl k lendable p
-  calls-leave-sound (OnBytes.take-mark a) d k p = sound-kept (OnBytes.take-mark a) (read-areas l) d refl refl k lendable p
-  calls-leave-sound (OnBytes.return-to a m) d k p = sound-kept (OnBytes.return-to a m) (read-areas l) d refl refl k lendable p
+  calls-leave-sound (request q) d k p = sound-kept q (read-areas l) d k lendable p

@@ -2,22 +2,22 @@
 use Prim.Native.Nat.{ℕ}
 use mathlib.Core.Path.{_≡_, ap}
 use mathlib.Core.Bool.{true}
-use mathlib.Core.Option.{Option, none}
+use mathlib.Core.Option.{none}
 use mathlib.Core.List.{[]}
 use lib.ListN.{length, replicate}
 use Rattle.def_base.specs.Tests.{and-both}
 use Rattle.def_layout.specs.declared.Desk.{Desk}
 use Rattle.def_layout.specs.Desks.{empty-desk, no-row}
-use Rattle.def_model.specs.declared.Refusal.{Refusal}
 use Rattle.def_model.specs.Areas.{Areas}
-use Rattle.def_model.specs.Answers.{first-broken, passed}
+use Rattle.def_model.specs.Answers.{Outcome, first-broken, passed}
 use Rattle.def_model.specs.Batches.{open-batches, desk-of}
 use Rattle.def_model.specs.Pending.{pending-ok}
 use Rattle.def_model.specs.TreeRules.{tree-ok}
 use Rattle.def_model.specs.Redo.{redo-fits}
 use Rattle.def_model.specs.Sound.{layouts-ok, log-ok}
-use Rattle.def_model.specs.Restart.{stable-log, stable-pages, redone-pages, restarted, restart-checks, restart-by, restart-areas}
-use Rattle.def_model.specs.OnBytes.{restart, outcome}
+use Rattle.def_model.specs.Restart.{stable-log, stable-pages, redone-pages, restarted, restart-checks, restart-areas}
+use Rattle.def_model.specs.OnBytes.{restart, checks, does, outcome}
+use Rattle.law_areas.specs.Outcomes.{unbroken-does}
 use Rattle.theory_desk.specs.After.{desk-none-open}
 use Rattle.theory_sound.specs.Restarted.{Readable, none-open}
 
@@ -29,8 +29,8 @@ module _ (a : Areas) where
   restart-accepts l g f t p z = rw (l, g, f, and-both t p, z)
 
   passes : (d : Desk) → first-broken (restart-checks a) ≡ none → passed (outcome restart a d .answer) ≡ true
-  unfolding outcome restart-areas restart-by passed
-  passes d e = ap (λ (o : Option Refusal). passed (restart-by o a .answer)) e
+  unfolding checks does restart-areas passed
+  passes d e = ap (λ (o : Outcome). passed (o .answer)) (unbroken-does restart a d e)
 
   pub restart-none-open : Readable a → first-broken (restart-checks a) ≡ none → open-batches (restarted a .log) ≡ []
   restart-none-open b e = none-open a empty-desk b (passes empty-desk e)

@@ -3,7 +3,7 @@ use Prim.Native.Nat.{ℕ, suc, _+_, _-_, _≤_, _<_}
 use mathlib.Core.Path.{_≡_, refl, sym, _∙_, subst}
 use mathlib.Core.Logic.{_⊎_, inl, inr}
 use mathlib.Core.Bool.{true, false, _&&_}
-use mathlib.Core.Option.{Option, none, some}
+use mathlib.Core.Option.{none}
 use mathlib.Core.List.{List, [], _∷_, _++_}
 use native.Mathlib.Omega.{arith}
 use lib.ListN.{length, replicate, length-map}
@@ -16,7 +16,6 @@ use Rattle.def_layout.specs.Pages.{map-bits}
 use Rattle.def_layout.specs.Records.{Rec}
 use Rattle.def_layout.specs.Rows.{row, names-pages}
 use Rattle.def_layout.specs.RecordBytes.{Slot, empty, full, other}
-use Rattle.def_model.specs.declared.Refusal.{Refusal}
 use Rattle.def_model.specs.declared.Refusal.the-variants.{Layout, Log, Redo, Rules, SlotsShort, PagesShort}
 use Rattle.def_model.specs.Areas.{Side, Areas, page-in, store-all, log-stores}
 use Rattle.def_model.specs.Answers.{check, first-broken, passed}
@@ -27,8 +26,9 @@ use Rattle.def_model.specs.TreeRules.{tree-ok, leaf-records}
 use Rattle.def_model.specs.Redo.{redo-fits}
 use Rattle.def_model.specs.Sound.{sound, layouts-ok, log-ok, numbers-ok, same-slot, same-slots}
 use Rattle.def_model.specs.Calls.{run-side}
-use Rattle.def_model.specs.Restart.{stable-log, stable-pages, stable-slots, redone, redone-pages, restarted, restart-checks, restart-by, restart-areas}
-use Rattle.def_model.specs.OnBytes.{restart, outcome}
+use Rattle.def_model.specs.Restart.{stable-log, stable-pages, stable-slots, redone, redone-pages, restarted, restart-checks, restart-areas}
+use Rattle.theory_refusals.specs.Order.{passed-does}
+use Rattle.def_model.specs.OnBytes.{restart, checks, does, outcome}
 use Rattle.theory_redo.specs.Area.{length-replay}
 use Rattle.theory_update.specs.Find.Fetching.{fetched-is}
 use Rattle.theory_ledger.specs.Small.{Small}
@@ -79,12 +79,8 @@ slots-are n m (other b ∷ s) e = clash (sym e)
 module _ (a : Areas) (d : Desk) (b : Readable a) (p : passed (outcome restart a d .answer) ≡ true) where
   -- Every check passed.
   none-found : first-broken (restart-checks a) ≡ none
-  unfolding outcome restart-areas restart-by passed
-  none-found = go (first-broken (restart-checks a)) p
-    where
-      go : (o : Option Refusal) → passed (restart-by o a .answer) ≡ true → o ≡ none
-      go none p = refl
-      go (some r) p = clash (sym p)
+  unfolding checks
+  none-found = passed-does restart a d p .0
 
   record Passed : Type 0 where
     layouts : layouts-ok (a .stable) ≡ true
@@ -95,9 +91,9 @@ module _ (a : Areas) (d : Desk) (b : Readable a) (p : passed (outcome restart a 
     slots : eqb (restarted a .stop) 17 ≡ false
     pages : eqb (restarted a .stop) 18 ≡ false
 
-  checks : Passed
+  asked : Passed
   unfolding restart-checks
-  checks =
+  asked =
       let (c₁, e₁) = kept-check (layouts-ok (a .stable)) Layout _ none-found in
       let (c₂, e₂) = kept-check (log-ok (a .stable)) Log _ e₁ in
       let (c₃, e₃) = kept-check (redo-fits 1 (stable-log a) (stable-pages a)) Redo _ e₂ in
@@ -112,37 +108,37 @@ module _ (a : Areas) (d : Desk) (b : Readable a) (p : passed (outcome restart a 
     where
       go : (restarted a .stop ≡ 0) ⊎ ((restarted a .stop ≡ 17) ⊎ (restarted a .stop ≡ 18)) → restarted a .stop ≡ 0
       go (inl e) = e
-      go (inr (inl e)) = clash (sym (eq-true (restarted a .stop) 17 e) ∙ checks .slots)
-      go (inr (inr e)) = clash (sym (eq-true (restarted a .stop) 18 e) ∙ checks .pages)
+      go (inr (inl e)) = clash (sym (eq-true (restarted a .stop) 17 e) ∙ asked .slots)
+      go (inr (inr e)) = clash (sym (eq-true (restarted a .stop) 18 e) ∙ asked .pages)
 
   count : length (stable-pages a) ≡ length (a .stable .pages)
   count = length-map (a .stable .pages) page-in
 
   slots-good : slots-ok (length (a .stable .pages)) 1 (a .stable .log) ≡ true
   unfolding log-ok
-  slots-good = and-true (slots-ok (length (a .stable .pages)) 1 (a .stable .log)) _ (checks .log) .0
+  slots-good = and-true (slots-ok (length (a .stable .pages)) 1 (a .stable .log)) _ (asked .log) .0
 
   chain-good : (chain-ok 1 (stable-log a) [] ≡ true) × (numbers-ok (length (stable-log a)) (stable-pages a) ≡ true)
   unfolding log-ok
-  chain-good = and-true (chain-ok 1 (stable-log a) []) _ (and-true (slots-ok (length (a .stable .pages)) 1 (a .stable .log)) _ (checks .log) .1)
+  chain-good = and-true (chain-ok 1 (stable-log a) []) _ (and-true (slots-ok (length (a .stable .pages)) 1 (a .stable .log)) _ (asked .log) .1)
 
   kept-pages : Kept (length (stable-log a)) (redone-pages a)
   unfolding redone-pages
   kept-pages =
       let (rows, names) = slots-rows (length (a .stable .pages)) 1 (a .stable .log) slots-good in
-      replay-kept (length (stable-log a)) 1 (length (a .stable .pages)) (stable-log a) (stable-pages a) count (b .some-pages) (b .few) (omega arith) rows names (b .low-records) (checks .fits)
-      (record { laid = side-laid (a .stable) (checks .layouts); low = b .low-pages; numbers = λ q h. let y = numbers-low (length (stable-log a)) (stable-pages a) (chain-good .1) q h in omega arith })
+      replay-kept (length (stable-log a)) 1 (length (a .stable .pages)) (stable-log a) (stable-pages a) count (b .some-pages) (b .few) (omega arith) rows names (b .low-records) (asked .fits)
+      (record { laid = side-laid (a .stable) (asked .layouts); low = b .low-pages; numbers = λ q h. let y = numbers-low (length (stable-log a)) (stable-pages a) (chain-good .1) q h in omega arith })
 
   start : (sl : List Entry) × Core (length (a .stable .pages)) (redone a) sl
   unfolding redone redone-pages
   start =
       let (rows, names) = slots-rows (length (a .stable .pages)) 1 (a .stable .log) slots-good in
       let k = kept-pages in
-      let (sl, settles) = pending-settles (redone-pages a) (leaf-records (redone-pages a)) (λ q t. fetched-is q (redone-pages a) (checks .tree) t) (open-batches (stable-log a)) (b .small) (leaves-rise (redone-pages a) (checks .tree)) (checks .pending) in (
+      let (sl, settles) = pending-settles (redone-pages a) (leaf-records (redone-pages a)) (λ q t. fetched-is q (redone-pages a) (asked .tree) t) (open-batches (stable-log a)) (b .small) (leaves-rise (redone-pages a) (asked .tree)) (asked .pending) in (
         sl,
         record {
           size = length-replay 1 (stable-log a) (stable-pages a) ∙ count;
-          tree = checks .tree;
+          tree = asked .tree;
           lows = λ q h. let y = k .numbers q h in omega arith;
           laid = k .laid;
           rows = rows;
@@ -192,9 +188,9 @@ module _ (a : Areas) (d : Desk) (b : Readable a) (p : passed (outcome restart a 
 
   -- A RESTARTED REGISTER IS SOUND.
   pub restart-sound : sound (areas-after restart a d) (outcome restart a d .desk) ≡ true
-  unfolding outcome restart-areas restart-by run-side desk-of
+  unfolding does restart-areas run-side desk-of
   restart-sound =
       let s : Side = store-all (log-stores (length (stable-log a)) (restarted a .log)) (a .stable) in
-      (λ j. sound (record { work = restart-by (none-found j) a .work; stable = store-all (restart-by (none-found j) a .stores) (a .stable) }) (restart-by (none-found j) a .desk))
+      (λ j. let y = passed-does restart a d p .1 j in sound (record { work = y .work; stable = store-all (y .stores) (a .stable) }) (y .desk))
       ∙ sound-again (length (a .stable .pages)) (stable-slots a) (b .few) (restarted a) sl core (restarted-within a) s (length (restarted a .log))
       (stores-ok (record { work = run-side (stable-slots a) (restarted a); stable = s }) (desk-of (restarted a .log) (length (restarted a .log))) (restarted a .log) (log-back (stable-slots a) (restarted a .log)) stored-now) (reserves-hold (stable-slots a) (restarted a .pages) (restarted a .log) (open-batches (restarted a .log)) free-all)

@@ -21,9 +21,10 @@ use Rattle.def_model.specs.TreeRules.{leaf-records}
 use Rattle.def_model.specs.Update.{Run}
 use Rattle.def_model.specs.Undo.{return-run}
 use Rattle.def_model.specs.Sound.{sound, log-ok, work-log, work-open}
-use Rattle.def_model.specs.Calls.{run-of, run-side, kept-run, is-none, returned, return-of, return-checks, return-by, return-batch}
-use Rattle.def_model.specs.OnBytes.{return-to, outcome}
+use Rattle.def_model.specs.Calls.{run-of, run-side, kept-run, is-none, returned, return-of, return-checks, return-batch}
+use Rattle.def_model.specs.OnBytes.{request, return-to, checks, request-checks, does, request-does, outcome}
 use Rattle.law_areas.specs.Typed.{pages-back, log-back}
+use Rattle.law_areas.specs.Outcomes.{unbroken-does}
 use Rattle.theory_tree.specs.Order.Keys.{Rising}
 use Rattle.theory_ledger.specs.Runs.{Runs, carry-lines}
 use Rattle.theory_ledger.specs.HeldBy.{HeldBy, held-means}
@@ -49,11 +50,11 @@ module _ (a : Areas) (d : Desk) (l : Lendable a) (s : sound a d ≡ true) (b mar
   t : Run
   t = return-run mark y (run-of a)
 
-  goes : outcome (return-to b mark) a d ≡ kept-run Done a t d
-  unfolding outcome return-batch return-by return-checks first-broken is-none returned t
+  goes : outcome (request (return-to b mark)) a d ≡ kept-run Done a t d
+  unfolding checks request-checks does request-does return-batch return-checks first-broken is-none returned t
   goes =
       let z = return-finds-room a d (l .few) (l .equal) (l .small) s b mark (ap is-none f) in
-      rw (s, ap is-none f, is, eq-true (return-of b mark a .stop) 0 z) (ap (λ o. kept-run Done a (returned mark o (run-of a)) d) f)
+      unbroken-does (request (return-to b mark)) a d (rw (s, ap is-none f, is, eq-true (return-of b mark a .stop) 0 z)) ∙ ap (λ o. kept-run Done a (returned mark o (run-of a)) d) f
 
   -- The batch's lines run on every key from what it found to the list.
   runs : (k : ℕ) → (o : Option ℕ) × Runs k o (y .lines) (look k (list a))
@@ -65,7 +66,7 @@ module _ (a : Areas) (d : Desk) (l : Lendable a) (s : sound a d ≡ true) (b mar
   list-rises = let (sl, c) = sound-core a d s (l .few) (l .small) in c .settles .leaves-rise
 
   -- DEMAND 2 OF A RETURN: "every pending update it made after that mark" and no other is gone from the list.
-  pub return-done : ReturnDone a mark b y (outcome (return-to b mark) a d)
+  pub return-done : ReturnDone a mark b y (outcome (request (return-to b mark)) a d)
   unfolding kept-run run-side run-of t
   return-done =
       let x = lines-taken-back mark (y .lines) (list a) list-rises runs in
@@ -86,12 +87,12 @@ module _ (a : Areas) (d : Desk) (l : Lendable a) (s : sound a d ≡ true) (b mar
   abbrev pub left-open : List Batch
   left-open = change-batch b (left-with last (kept mark (y .lines))) (work-open a)
 
-  pub return-opens : open-batches (records-of (outcome (return-to b mark) a d .work .log)) ≡ left-open
+  pub return-opens : open-batches (records-of (outcome (request (return-to b mark)) a d .work .log)) ≡ left-open
   unfolding kept-run run-side run-of t last
   return-opens = ap (λ o. open-batches (records-of (o .work .log))) goes ∙ ap open-batches (log-back _ (t .log)) ∙ return-returned a d (l .few) (l .equal) (l .small) s b mark y f .opens
 
   -- "a key whose updates are all undone is no longer held": held are the keys of these batches' pending updates.
-  pub return-held : (n k : ℕ) → (held n k (open-batches (records-of (outcome (return-to b mark) a d .work .log))) ≡ true) ↔ HeldBy n (λ j. k ≡ j) left-open
+  pub return-held : (n k : ℕ) → (held n k (open-batches (records-of (outcome (request (return-to b mark)) a d .work .log))) ≡ true) ↔ HeldBy n (λ j. k ≡ j) left-open
   return-held n k = subst (λ bs. (held n k bs ≡ true) ↔ HeldBy n (λ j. k ≡ j) left-open) (sym return-opens) (held-means n k left-open)
 
 -- WHAT MARK ANSWERS IS A MARK, as long as its batch is open (`of-more`).

@@ -27,8 +27,8 @@ use Rattle.def_model.specs.Lookup.{fetched, next-above, last-below}
 use Rattle.def_model.specs.TreeRules.{tree-ok, leaf-records, used-pages}
 use Rattle.def_model.specs.Update.{put-record, remove-record}
 use Rattle.def_model.specs.Sound.{sound, reserve, work-pages, work-log, work-slots, work-open, update-has-slots, update-has-pages}
-use Rattle.def_model.specs.Calls.{run-of, run-side, kept-run, unchanged, no-slots, no-pages, is-none, value-or, next-limit, next-answer, last-of, fetch-checks, fetch-by, fetch-slide, next-checks, next-slide-by, next-slide, before, previous-limit, previous-checks, previous-slide-by, previous-slide, insert-checks, insert-by, insert-slide, delete-checks, delete-by, delete-slide}
-use Rattle.def_model.specs.OnBytes.{fetch, next, previous, insert, delete, outcome}
+use Rattle.def_model.specs.Calls.{run-of, run-side, kept-run, unchanged, no-slots, no-pages, is-none, value-or, next-limit, next-answer, last-of, fetch-checks, next-checks, before, previous-limit, previous-checks, insert-checks, insert-slide, delete-checks, delete-slide}
+use Rattle.def_model.specs.OnBytes.{request, ask, fetch, next, previous, insert, delete, question-checks, question-answer, checks, request-checks, does, request-does, refused, refused-work, refused-desk, outcome-by, outcome}
 use Rattle.theory_tree.specs.Step.Steps.{by-insert, by-delete}
 use Rattle.theory_update.specs.Laws
 use Rattle.theory_update.specs.Laws.{Ready, put-law, remove-law}
@@ -36,6 +36,7 @@ use Rattle.theory_update.specs.Find.Fetching.{fetched-is, next-above-is}
 use Rattle.theory_update.specs.Find.Backwards.{previous-below-is}
 use Rattle.theory_pages.specs.Layout.{map-laid}
 use Rattle.law_areas.specs.Typed.{pages-back}
+use Rattle.law_areas.specs.Outcomes.{broken-refused, unbroken-does}
 use Rattle.theory_calls.specs.Checks.{sound-parts}
 use Rattle.theory_sound.specs.FromSound.{side-laid, sound-lows}
 
@@ -96,14 +97,14 @@ module _ (a : Areas) (d : Desk) (s : sound a d ≡ true) where
 
   -- ---- fetch
 
-  pub fetch-answers : (b k : ℕ) (y : Batch) → k ≤ top → find-batch b (work-open a) ≡ some y → held b k (work-open a) ≡ false → outcome (fetch b k) a d ≡ list-fetch (look k (list a)) a d
-  unfolding outcome fetch-slide list-fetch fetch-by value-or first-broken found
+  pub fetch-answers : (b k : ℕ) (y : Batch) → k ≤ top → find-batch b (work-open a) ≡ some y → held b k (work-open a) ≡ false → outcome (request (ask (fetch b k))) a d ≡ list-fetch (look k (list a)) a d
+  unfolding outcome outcome-by checks request-checks does request-does refused refused-work refused-desk question-checks question-answer list-fetch value-or first-broken found
   fetch-answers b k y kt f h =
-      ap (λ o. fetch-by o k a d)
+      ap (λ o. outcome-by o (request (ask (fetch b k))) a d)
       (fetch-asks b k y f h)
       ∙ by (fetched k (work-pages a)) (look k (list a)) refl (fetched-is k (work-pages a) tree kt)
     where
-      by : (o q : Option ℕ) → fetched k (work-pages a) ≡ o → o ≡ q → fetch-by (first-broken (check (not (found o)) Absent ∷ [])) k a d ≡ list-fetch q a d
+      by : (o q : Option ℕ) → fetched k (work-pages a) ≡ o → o ≡ q → outcome-by (first-broken (check (not (found o)) Absent ∷ [])) (request (ask (fetch b k))) a d ≡ list-fetch q a d
       by none q e w = ap (λ z. list-fetch z a d) w
       by (some v) q e w = ap (λ z. unchanged (Number (value-or z)) a d) e ∙ ap (λ z. list-fetch z a d) w
 
@@ -115,30 +116,30 @@ module _ (a : Areas) (d : Desk) (s : sound a d ≡ true) where
       map-laid (length (work-pages a)) (at (work-pages a) 0) (side-laid (a .work) (sound-parts a d s .layouts) 0 (omega arith)) .none-held
 
   pub next-answers : (b k : ℕ) (y : Batch) → 0 < length (a .work .pages) → find-batch b (work-open a) ≡ some y → held-between b k (next-limit (seek (suc k) (list a))) (work-open a) ≡ false
-      → outcome (next b k) a d ≡ list-next (seek (suc k) (list a)) a d
-  unfolding outcome next-slide is-none list-next next-slide-by next-answer first-broken
+      → outcome (request (ask (next b k))) a d ≡ list-next (seek (suc k) (list a)) a d
+  unfolding outcome outcome-by checks request-checks does request-does refused refused-work refused-desk question-checks question-answer is-none list-next next-answer first-broken
   next-answers b k y pos f h =
       let e = next-above-is k (work-pages a) tree (map-empty pos) in
-      ap (λ o. next-slide-by o k a d)
+      ap (λ o. outcome-by o (request (ask (next b k))) a d)
       (next-asks b k y f (ap (λ z. held-between b k (next-limit z) (work-open a)) e ∙ h))
       ∙ by (next-above k (work-pages a)) (seek (suc k) (list a)) refl e
     where
-      by : (o q : Option Entry) → next-above k (work-pages a) ≡ o → o ≡ q → next-slide-by (first-broken (check (is-none o) Absent ∷ [])) k a d ≡ list-next q a d
+      by : (o q : Option Entry) → next-above k (work-pages a) ≡ o → o ≡ q → outcome-by (first-broken (check (is-none o) Absent ∷ [])) (request (ask (next b k))) a d ≡ list-next q a d
       by none q e w = ap (λ z. list-next z a d) w
       by (some v) q e w = ap (λ z. unchanged (next-answer z) a d) e ∙ ap (λ z. list-next z a d) w
 
   -- ---- previous
 
   pub previous-answers : (b k : ℕ) (y : Batch) → k ≤ top → 0 < length (a .work .pages) → find-batch b (work-open a) ≡ some y → held-from b (previous-limit (last-below k (list a))) k (work-open a) ≡ false
-      → outcome (previous b k) a d ≡ list-next (last-below k (list a)) a d
-  unfolding outcome previous-slide is-none list-next previous-slide-by next-answer first-broken
+      → outcome (request (ask (previous b k))) a d ≡ list-next (last-below k (list a)) a d
+  unfolding outcome outcome-by checks request-checks does request-does refused refused-work refused-desk question-checks question-answer is-none list-next next-answer first-broken
   previous-answers b k y kt pos f h =
       let e = previous-below-is k (work-pages a) (a .work .lefts) tree (sound-parts a d s .lefts) (map-empty pos) kt in
-      ap (λ o. previous-slide-by o k a d)
+      ap (λ o. outcome-by o (request (ask (previous b k))) a d)
       (previous-asks b k y f (ap (λ z. held-from b (previous-limit z) k (work-open a)) e ∙ h))
       ∙ by (before k a) (last-below k (list a)) refl e
     where
-      by : (o q : Option Entry) → before k a ≡ o → o ≡ q → previous-slide-by (first-broken (check (is-none o) Absent ∷ [])) k a d ≡ list-next q a d
+      by : (o q : Option Entry) → before k a ≡ o → o ≡ q → outcome-by (first-broken (check (is-none o) Absent ∷ [])) (request (ask (previous b k))) a d ≡ list-next q a d
       by none q e w = ap (λ z. list-next z a d) w
       by (some v) q e w = ap (λ z. unchanged (next-answer z) a d) e ∙ ap (λ z. list-next z a d) w
 
@@ -154,10 +155,10 @@ module _ (a : Areas) (d : Desk) (s : sound a d ≡ true) where
     run-list = refl
 
     -- A key that is there.
-    pub insert-present : (b k v w : ℕ) → k ≢ 0 → k ≤ top → unmarked (find-batch b (work-open a)) ≡ true → held b k (work-open a) ≡ false → look k (list a) ≡ some w → outcome (insert b k v) a d ≡ refuse Present a d
-    unfolding outcome insert-slide insert-by first-broken found
+    pub insert-present : (b k v w : ℕ) → k ≢ 0 → k ≤ top → unmarked (find-batch b (work-open a)) ≡ true → held b k (work-open a) ≡ false → look k (list a) ≡ some w → outcome (request (insert b k v)) a d ≡ refuse Present a d
+    unfolding checks request-checks refused refused-work refused-desk first-broken found
     insert-present b k v w nz kt u h p =
-        ap (λ o. insert-by o b k v a d)
+        broken-refused (request (insert b k v)) a d Present
         (insert-asks b k nz u h ∙ ap (λ z. first-broken (check (found z) Present ∷ no-slots a ∷ no-pages a ∷ [])) (fetched-is k (work-pages a) tree kt ∙ p))
 
     -- A key that is not.
@@ -175,31 +176,31 @@ module _ (a : Areas) (d : Desk) (s : sound a d ≡ true) where
     pages-room e = let y = true-le (7 + 7 * suc (pending-count (work-open a))) (length (work-pages a) - used-pages (work-pages a)) e in omega arith
 
     pub insert-answers : (b k v : ℕ) → k ≢ 0 → k ≤ top → unmarked (find-batch b (work-open a)) ≡ true → held b k (work-open a) ≡ false → look k (list a) ≡ none
-        → update-has-slots (work-slots a) (work-log a) (work-open a) ≡ true → update-has-pages (work-pages a) (work-open a) ≡ true → Changed (outcome (insert b k v) a d) (insert-sorted k v (list a))
-    unfolding outcome insert-slide insert-by first-broken found kept-run run-side
+        → update-has-slots (work-slots a) (work-log a) (work-open a) ≡ true → update-has-pages (work-pages a) (work-open a) ≡ true → Changed (outcome (request (insert b k v)) a d) (insert-sorted k v (list a))
+    unfolding checks request-checks does request-does insert-slide first-broken found kept-run run-side
     insert-answers b k v nz kt u h ab p q =
-        let e : outcome (insert b k v) a d ≡ kept-run Done a (put-record Records.insert b (last-of (find-batch b (work-open a))) k v (run-of a)) d
-        = ap (λ o. insert-by o b k v a d)
+        let e : outcome (request (insert b k v)) a d ≡ kept-run Done a (put-record Records.insert b (last-of (find-batch b (work-open a))) k v (run-of a)) d
+        = unbroken-does (request (insert b k v)) a d
         (insert-asks b k nz u h ∙ ap (λ z. first-broken (check (found z) Present ∷ no-slots a ∷ no-pages a ∷ [])) (fetched-is k (work-pages a) tree kt ∙ ab) ∙ places-free p q) in
         let t = put-record Records.insert b (last-of (find-batch b (work-open a))) k v (run-of a) in
         let kp = put-law Records.insert b (last-of (find-batch b (work-open a))) k v (run-of a) ready kt by-insert (ap (look k) run-list ∙ ab) (slots-room p) (pages-room q) in
         record { done = ap (λ o. o .answer) e; leaves = ap (λ o. leaf-records (pages-of (o .work .pages))) e ∙ ap leaf-records (pages-back (t .pages)) ∙ kp .holds ∙ ap (insert-sorted k v) run-list; nothing-stored = ap (λ o. o .stores) e }
 
     pub delete-answers : (b k w : ℕ) → k ≤ top → unmarked (find-batch b (work-open a)) ≡ true → held b k (work-open a) ≡ false → look k (list a) ≡ some w
-        → update-has-slots (work-slots a) (work-log a) (work-open a) ≡ true → update-has-pages (work-pages a) (work-open a) ≡ true → Changed (outcome (delete b k) a d) (remove-key k (list a))
-    unfolding outcome delete-slide delete-by first-broken found kept-run run-side value-or
+        → update-has-slots (work-slots a) (work-log a) (work-open a) ≡ true → update-has-pages (work-pages a) (work-open a) ≡ true → Changed (outcome (request (delete b k)) a d) (remove-key k (list a))
+    unfolding checks request-checks does request-does delete-slide first-broken found kept-run run-side value-or
     delete-answers b k w kt u h th p q =
         let g : fetched k (work-pages a) ≡ some w = fetched-is k (work-pages a) tree kt ∙ th in
         let t = remove-record Records.delete b (last-of (find-batch b (work-open a))) k w (run-of a) in
-        let e : outcome (delete b k) a d ≡ kept-run Done a t d
-        = ap (λ o. delete-by o b k a d)
+        let e : outcome (request (delete b k)) a d ≡ kept-run Done a t d
+        = unbroken-does (request (delete b k)) a d
         (delete-asks b k u h ∙ ap (λ z. first-broken (check (not (found z)) Absent ∷ no-slots a ∷ no-pages a ∷ [])) g ∙ places-free p q)
         ∙ ap (λ z. kept-run Done a (remove-record Records.delete b (last-of (find-batch b (work-open a))) k (value-or z) (run-of a)) d) g in
         let kp = remove-law Records.delete b (last-of (find-batch b (work-open a))) k w w (run-of a) ready kt by-delete (ap (look k) run-list ∙ th) (slots-room p) (pages-room q) in
         record { done = ap (λ o. o .answer) e; leaves = ap (λ o. leaf-records (pages-of (o .work .pages))) e ∙ ap leaf-records (pages-back (t .pages)) ∙ kp .holds ∙ ap (remove-key k) run-list; nothing-stored = ap (λ o. o .stores) e }
 
-    pub delete-absent : (b k : ℕ) → k ≤ top → unmarked (find-batch b (work-open a)) ≡ true → held b k (work-open a) ≡ false → look k (list a) ≡ none → outcome (delete b k) a d ≡ refuse Absent a d
-    unfolding outcome delete-slide delete-by first-broken found
+    pub delete-absent : (b k : ℕ) → k ≤ top → unmarked (find-batch b (work-open a)) ≡ true → held b k (work-open a) ≡ false → look k (list a) ≡ none → outcome (request (delete b k)) a d ≡ refuse Absent a d
+    unfolding checks request-checks refused refused-work refused-desk first-broken found
     delete-absent b k kt u h p =
-        ap (λ o. delete-by o b k a d)
+        broken-refused (request (delete b k)) a d Absent
         (delete-asks b k u h ∙ ap (λ z. first-broken (check (not (found z)) Absent ∷ no-slots a ∷ no-pages a ∷ [])) (fetched-is k (work-pages a) tree kt ∙ p))

@@ -4,7 +4,7 @@ use borrow.Author.Tests.{not-true, not-false}
 use Rattle.call_start.proofs.load_within.Statement.{statement}
 use Rattle.call_start.proofs.load_within.Tie as tie
 use mathlib.Core.Path.{_∙_, sym, refl}
-use Rattle.def_model.specs.OnBytes as calls
+use Rattle.def_model.specs.CallNames as calls
 use Rattle.def_model.specs.OnBytes.{refused-desk}
 use Rattle.area_lengths.specs.Lent.{lengths-numbers}
 use Rattle.call_reply.specs.Replies.{lengths-refused}
