@@ -1,7 +1,7 @@
 """Edits: small wrong changes of one file, kept as text.
 
 An edit has lines `NAME: TEXT`: `file: PATH` is the file; `old: TEXT` and `new: TEXT`, which may be repeated in pairs, are the change, where
-the old text stands once in the file. Other names are for those who use the edit."""
+the old text stands once in the file and `¶` is an end of line. Other names are for those who use the edit."""
 import os
 
 
@@ -12,9 +12,9 @@ def read_edit(path):
     for line in open(path, encoding='utf-8'):
         name, _, text = line.rstrip('\n').partition(': ')
         if name == 'old':
-            old = text
+            old = text.replace('¶', '\n')
         elif name == 'new' or line.rstrip('\n') == 'new:':
-            edit['pairs'].append((old, text))
+            edit['pairs'].append((old, text.replace('¶', '\n')))
         else:
             edit[name] = text
     return edit

@@ -99,7 +99,8 @@ pub fn blank_from(es: [Entry; ROOM], n: usize) -> bool
     true
 }
 
-// SEARCH IN A PAGE, for the whole program, in 8 bits: the place of the first of n entries whose key is not below k, or n.
+// SEARCH IN A PAGE, in 8 bits: the place of the first of n entries whose key is not below k, or n. Where an insert or delete is redone at a page's
+// own bytes, `record_leaf` has the same search of those.
 pub fn find(es: [Entry; ROOM], n: u8, k: u32) -> u8
     requires { ⌜ n ≤ room ⌝ }
     ensures { λ r. ⌜ (r ≡ place k (used n es)) × (r ≤ n) ⌝ }

@@ -21,7 +21,7 @@ use Rattle.def_model.specs.CallNames.{begin, fetch, next}
 use Rattle.def_model.specs.OnBytes.{checks, question-checks, request-checks, refused-work, refused-desk, outcome-by, outcome}
 use Rattle.def_sessions.specs.Play.{Machine, ask, new, ended, play, play-step, shows, comes-true, same-answers}
 use Rattle.def_sessions.specs.Compute.{computed}
-use Rattle.def_sessions.specs.Table.{any-key, rows, table, answers, refused, a-split, a-raise, a-merge, a-held-key, a-ninth, enough-slots, too-few-slots, too-few-pages, a-cut, a-lower, shared-left, shared-right, an-abort, a-redo, unstored-commit, stored-commit, console, next-held, next-held-between, steps-back, each-refusal, zero-key, three-trays, marks, split-stays, partly-back, two-open, three-open, redo-of-changes, two-inserts, begin-fits, begin-short, done}
+use Rattle.def_sessions.specs.Table.{any-key, rows, table, answers, refused, a-split, a-raise, a-merge, a-held-key, a-ninth, enough-slots, too-few-slots, too-few-pages, a-cut, a-lower, shared-left, shared-right, an-abort, a-redo, unstored-commit, stored-commit, console, next-held, next-held-between, steps-back, each-refusal, zero-key, three-trays, marks, split-stays, partly-back, two-open, three-open, restart-order, desk-rows, redo-of-changes, two-inserts, begin-fits, begin-short, done}
 use Rattle.def_sessions.specs.Forged.{forged, forged-answers, unsorted, two-added, both-removed}
 
 -- ---- a new register with one batch, and any key
@@ -214,6 +214,14 @@ begin-short-holds : comes-true begin-short ≡ true
 unfolding computed
 begin-short-holds = refl
 
+restart-order-holds : comes-true restart-order ≡ true
+unfolding computed
+restart-order-holds = refl
+
+desk-rows-holds : comes-true desk-rows ≡ true
+unfolding computed
+desk-rows-holds = refl
+
 -- ---- forged images
 
 -- Page 1 has record 2, and record 3 is to insert 10: done where the page lacks 10, refused where it has it though the search does not find it, also
@@ -237,7 +245,7 @@ rows-hold =
     and-both split-holds (and-both raise-holds (and-both merge-holds (and-both held-key-holds (and-both ninth-holds (and-both
     enough-slots-holds (and-both too-few-slots-holds (and-both too-few-pages-holds (and-both cut-holds (and-both lower-holds (and-both
     shared-left-holds (and-both shared-right-holds (and-both abort-holds (and-both redo-holds (and-both unstored-commit-holds
-    (and-both stored-commit-holds (and-both console-holds (and-both next-held-holds (and-both next-held-between-holds (and-both steps-back-holds (and-both each-refusal-holds (and-both zero-key-holds (and-both three-trays-holds (and-both marks-hold (and-both split-stays-holds (and-both partly-back-holds (and-both two-open-holds (and-both three-open-holds (and-both redo-of-changes-holds (and-both slots-pending-holds (and-both no-slots-pending-holds (and-both pages-pending-holds (and-both no-pages-pending-holds (and-both begin-fits-holds (and-both begin-short-holds refl))))))))))))))))))))))))))))))))))
+    (and-both stored-commit-holds (and-both console-holds (and-both next-held-holds (and-both next-held-between-holds (and-both steps-back-holds (and-both each-refusal-holds (and-both zero-key-holds (and-both three-trays-holds (and-both marks-hold (and-both split-stays-holds (and-both partly-back-holds (and-both two-open-holds (and-both three-open-holds (and-both restart-order-holds (and-both desk-rows-holds (and-both redo-of-changes-holds (and-both slots-pending-holds (and-both no-slots-pending-holds (and-both pages-pending-holds (and-both no-pages-pending-holds (and-both begin-fits-holds (and-both begin-short-holds refl))))))))))))))))))))))))))))))))))))
 
 pub sessions-hold : (k : ℕ) → every comes-true (table k) ≡ true
 unfolding every

@@ -4,7 +4,7 @@ use mathlib.Core.Bool.{true}
 use Rattle.def_base.specs.Tests.{every, and-both}
 use Rattle.def_sessions.specs.Play.{comes-true}
 use Rattle.def_sessions.specs.Compute.{computed}
-use Rattle.def_sessions.specs.Damage.{damage, no-page, own-number, second-map, index-level, leaf-count, index-child, free-link, stored-left, spare-bit, slot-number, slot-row, slot-chain, after-mark, after-commit, end-pending, undo-older, slot-page, ninth-open, after-empty, page-ahead, insert-there, delete-absent, delete-other, undo-absent, undo-there, split-link, page-taken, no-tree, pending-value, pending-batches, pending-twice, pending-deleted}
+use Rattle.def_sessions.specs.Damage.{damage, no-page, own-number, used-number, second-map, index-level, leaf-level, leaf-count, index-child, free-link, stored-left, spare-bit, slot-number, slot-row, slot-chain, after-mark, after-commit, end-pending, undo-older, slot-page, ninth-open, after-empty, page-ahead, insert-there, delete-absent, delete-other, undo-absent, undo-there, split-link, page-taken, no-tree, pending-value, pending-batches, pending-twice, pending-deleted}
 
 no-page-holds : every comes-true no-page ≡ true
 unfolding computed
@@ -13,6 +13,14 @@ no-page-holds = refl
 own-number-holds : every comes-true own-number ≡ true
 unfolding computed
 own-number-holds = refl
+
+used-number-holds : every comes-true used-number ≡ true
+unfolding computed
+used-number-holds = refl
+
+leaf-level-holds : every comes-true leaf-level ≡ true
+unfolding computed
+leaf-level-holds = refl
 
 second-map-holds : every comes-true second-map ≡ true
 unfolding computed
@@ -137,10 +145,10 @@ pending-deleted-holds = refl
 pub damage-holds : every (every comes-true) damage ≡ true
 unfolding every
 damage-holds =
-    and-both no-page-holds (and-both own-number-holds (and-both second-map-holds (and-both index-level-holds (and-both leaf-count-holds
+    and-both no-page-holds (and-both own-number-holds (and-both used-number-holds (and-both second-map-holds (and-both index-level-holds (and-both leaf-level-holds (and-both leaf-count-holds
     (and-both index-child-holds (and-both free-link-holds (and-both stored-left-holds (and-both spare-bit-holds (and-both slot-number-holds (and-both slot-row-holds
     (and-both slot-chain-holds (and-both after-mark-holds (and-both after-commit-holds (and-both end-pending-holds (and-both
     undo-older-holds (and-both slot-page-holds (and-both ninth-open-holds (and-both after-empty-holds (and-both page-ahead-holds (and-both
     insert-there-holds (and-both delete-absent-holds (and-both delete-other-holds (and-both undo-absent-holds (and-both undo-there-holds
     (and-both split-link-holds (and-both page-taken-holds (and-both no-tree-holds (and-both pending-value-holds (and-both
-    pending-batches-holds (and-both pending-twice-holds (and-both pending-deleted-holds refl)))))))))))))))))))))))))))))))
+    pending-batches-holds (and-both pending-twice-holds (and-both pending-deleted-holds refl)))))))))))))))))))))))))))))))))

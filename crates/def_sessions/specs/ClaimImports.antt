@@ -4,7 +4,7 @@ use mathlib.Core.Bool.{true}
 use Rattle.def_base.specs.Tests.{every, and-both}
 use Rattle.def_sessions.specs.Play.{comes-true}
 use Rattle.def_sessions.specs.Compute.{computed}
-use Rattle.def_sessions.specs.Imports.{imports, one-leaf, two-leaves, three-leaves, full-root, three-levels, too-few, no-records, load-refusals, used, cut-loading}
+use Rattle.def_sessions.specs.Imports.{imports, one-leaf, two-leaves, three-leaves, full-root, three-levels, index-shares, too-few, no-records, load-refusals, used, cut-loading}
 
 one-leaf-holds : comes-true one-leaf ≡ true
 unfolding computed
@@ -42,6 +42,10 @@ three-levels-holds : comes-true three-levels ≡ true
 unfolding computed
 three-levels-holds = refl
 
+index-shares-holds : comes-true index-shares ≡ true
+unfolding computed
+index-shares-holds = refl
+
 too-few-holds : comes-true too-few ≡ true
 unfolding computed
 too-few-holds = refl
@@ -64,4 +68,4 @@ cut-loading-holds = refl
 
 pub imports-hold : every comes-true imports ≡ true
 unfolding every
-imports-hold = and-both one-leaf-holds (and-both two-leaves-holds (and-both no-third-holds (and-both least-shared-holds (and-both evenly-shared-holds (and-both most-shared-holds (and-both four-alone-holds (and-both full-root-holds (and-both three-levels-holds (and-both too-few-holds (and-both no-records-holds (and-both load-refusals-holds (and-both used-holds (and-both cut-loading-holds refl)))))))))))))
+imports-hold = and-both one-leaf-holds (and-both two-leaves-holds (and-both no-third-holds (and-both least-shared-holds (and-both evenly-shared-holds (and-both most-shared-holds (and-both four-alone-holds (and-both full-root-holds (and-both three-levels-holds (and-both index-shares-holds (and-both too-few-holds (and-both no-records-holds (and-both load-refusals-holds (and-both used-holds (and-both cut-loading-holds refl))))))))))))))

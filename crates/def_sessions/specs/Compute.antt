@@ -7,7 +7,7 @@ use Rattle.def_layout.specs.Pages.{page-kind, page-kind-number, kind-is, own-ok
 use Rattle.def_layout.specs.PageBytes.{left-by, left-in, without-left, with-left, block-bytes, page-front, bits, marks-word, marks-bytes, page-body, page-bytes, read-entries, read-mark, read-marks, page-fields, block-by, read-block}
 use Rattle.def_layout.specs.Records.{kind-number}
 use Rattle.def_layout.specs.Rows.{carries, named-only, one-side, row-says, row, names-pages}
-use Rattle.def_layout.specs.RecordBytes.{record-bytes}
+use Rattle.def_layout.specs.RecordBytes.{record-bytes, slot-bytes}
 use Rattle.def_layout.specs.Desks.{eight-rows, same-row, same-rows, same-desk}
 use Rattle.def_model.specs.Change.{link-in, unlink-in, entries-in, cut-to-size, role, share-in-a, share-in-b, change-a, change-b, change-c, change}
 use Rattle.def_model.specs.Fit.{found, found-value, after, nowhere, in-order, link-fits, side-by-side, share-fits-a, share-fits-b, fits-a, fits-b, fits-map, fits-role}
@@ -32,7 +32,7 @@ use Rattle.def_sessions.specs.Play.{numbers, ended, cut-off, forged, wit
 unfoldable pub computed : Session → Bool
 unfolding every any seek look insert-sorted remove-key same-entries ten-bits be32 put32 tab chunks entry-bytes entries-bytes same-bytes page-kind-number kind-is
     own-ok never-used layout-by layout page-front bits marks-word marks-bytes page-body page-bytes left-by left-in without-left with-left block-bytes read-entry page-kind read-entries read-mark read-marks page-fields block-by read-block kind-number carries named-only one-side row-says row
-    names-pages record-bytes eight-rows same-row same-rows same-desk link-in unlink-in entries-in cut-to-size role share-in-a share-in-b change-a change-b change-c
+    names-pages record-bytes slot-bytes eight-rows same-row same-rows same-desk link-in unlink-in entries-in cut-to-size role share-in-a share-in-b change-a change-b change-c
     change found found-value after nowhere in-order link-fits side-by-side share-fits-a share-fits-b fits-a fits-b fits-map fits-role when-named places redo-at redo-page
     redo-left redo-lefts redo-places redo-record replay count-places redo-count fits-places redo-fits flat node-of chain first-child collect bottom leaves leaf-records rising
     ends-ok node-ok level-ok matches first-page pages-ok below-ok counted ones root-least levels-ok walk-ok tree-ok entry-or leaf-for fetched first-of

@@ -5,7 +5,7 @@ use mathlib.Core.List.{List, [], _∷_, _++_, map}
 use lib.ListN.{replicate}
 use Rattle.def_layout.specs.declared.Entry.{Entry}
 use Rattle.def_layout.specs.Entries.{entry, top}
-use Rattle.def_layout.specs.Pages.{PageKind, free, index, storage-map, Page, node-at, freed, map-page}
+use Rattle.def_layout.specs.Pages.{PageKind, free, leaf, index, storage-map, Page, node-at, freed, map-page}
 use Rattle.def_layout.specs.PageBytes.{page, other, page-bytes, read-block, with-left}
 use Rattle.def_layout.specs.Records.{Rec, Kind, begin, insert, delete, undo-insert, undo-delete, commit, abort-mark, end, batch-row, data-row, split-row}
 use Rattle.def_layout.specs.RecordBytes.{full}
@@ -57,6 +57,17 @@ second-map = beside (page-two storage-map 0 ∷ []) 3 (page-two free 0 ∷ []) 0
 
 abbrev pub index-level : List Session
 index-level = beside (page-two index 0 ∷ []) 3 (page-two index 1 ∷ []) 0 0
+
+-- A leaf's level is 0.
+abbrev pub leaf-level : List Session
+leaf-level = beside (page-two leaf 3 ∷ []) 3 (page-two leaf 0 ∷ []) 0 0
+
+-- Only a page that was never used has own number 0: it has no log number.
+abbrev pub free-number : ℕ → List Step
+free-number own = begins 1 ∷ stands 2 (with-lsn 1 (freed own)) ∷ []
+
+abbrev pub used-number : List Session
+used-number = beside (free-number 0) 3 (free-number 2) 1 0
 
 abbrev pub sevens : List Entry
 sevens = entry 8 8 ∷ entry 9 9 ∷ entry 10 10 ∷ entry 11 11 ∷ entry 12 12 ∷ entry 13 13 ∷ entry 14 14 ∷ []
@@ -236,7 +247,7 @@ pending-deleted = beside (then-deleted 7) 6 (then-deleted 6) 1 0
 
 abbrev pub damage : List (List Session)
 damage =
-    no-page ∷ own-number ∷ second-map ∷ index-level ∷ leaf-count ∷ index-child ∷ free-link ∷ stored-left ∷ spare-bit
+    no-page ∷ own-number ∷ used-number ∷ second-map ∷ index-level ∷ leaf-level ∷ leaf-count ∷ index-child ∷ free-link ∷ stored-left ∷ spare-bit
     ∷ slot-number ∷ slot-row ∷ slot-chain ∷ after-mark ∷ after-commit ∷ end-pending ∷ undo-older ∷ slot-page ∷ ninth-open ∷ after-empty ∷ page-ahead
     ∷ insert-there ∷ delete-absent ∷ delete-other ∷ undo-absent ∷ undo-there ∷ split-link ∷ page-taken
     ∷ no-tree ∷ pending-value ∷ pending-batches ∷ pending-twice ∷ pending-deleted ∷ []

@@ -51,6 +51,12 @@ three-levels =
     (page-entries 1 (entry 1000 2 ∷ entry top 3 ∷ []) ∷ page-entries 3 (entry 1100 14 ∷ entry 1200 15 ∷ entry 1300 16 ∷ entry 1360 17 ∷ entry top 18 ∷ []) ∷ page-count 2 10 ∷ page-right 2 3 ∷ page-right 13 14
     ∷ page-count 17 6 ∷ page-count 18 5 ∷ page-keys 4 (10 ∷ 20 ∷ 30 ∷ 40 ∷ 50 ∷ 60 ∷ 70 ∷ 80 ∷ 90 ∷ 100 ∷ []) ∷ [])
 
+-- An index level whose last page shares: 21 leaves make index pages of 10, 6 and 5 links.
+abbrev pub index-shares : Session
+index-shares =
+    import 26 201
+    (page-count 1 3 ∷ page-count 2 10 ∷ page-count 3 6 ∷ page-count 4 5 ∷ page-right 4 0 ∷ page-count 24 6 ∷ page-count 25 5 ∷ page-entries 1 (entry 1000 2 ∷ entry 1600 3 ∷ entry top 4 ∷ []) ∷ [])
+
 -- "18, too few pages".
 abbrev pub too-few : Session
 too-few = of-size 18 67 (loads 141 ∷ []) (refused 18 ∷ []) (slides [] ∷ [])
@@ -84,4 +90,4 @@ cut-loading =
     (answers 1 ∷ done ∷ done ∷ (0 ∷ 0 ∷ 1 ∷ []) ∷ refused 4 ∷ done ∷ []) (slides (entry 10 1 ∷ entry 20 2 ∷ entry 30 3 ∷ []) ∷ [])
 
 abbrev pub imports : List Session
-imports = one-leaf ∷ two-leaves ∷ three-leaves 20 10 0 ∷ three-leaves 21 6 5 ∷ three-leaves 22 6 6 ∷ three-leaves 23 7 6 ∷ three-leaves 24 10 4 ∷ full-root ∷ three-levels ∷ too-few ∷ no-records ∷ load-refusals ∷ used ∷ cut-loading ∷ []
+imports = one-leaf ∷ two-leaves ∷ three-leaves 20 10 0 ∷ three-leaves 21 6 5 ∷ three-leaves 22 6 6 ∷ three-leaves 23 7 6 ∷ three-leaves 24 10 4 ∷ full-root ∷ three-levels ∷ index-shares ∷ too-few ∷ no-records ∷ load-refusals ∷ used ∷ cut-loading ∷ []

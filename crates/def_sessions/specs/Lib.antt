@@ -14,3 +14,7 @@ pub mod ClaimImports
 pub mod Backwards
 pub mod ClaimBackwards
 pub mod OnBytes
+pub mod ForgedLogs
+pub mod ClaimForgedLogs
+pub mod Unsound
+pub mod ClaimUnsound

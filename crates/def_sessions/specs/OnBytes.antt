@@ -12,7 +12,7 @@ use Rattle.def_model.specs.Answers.{answer-numbers}
 use Rattle.def_model.specs.OnBytes.{Lent, read-areas}
 use Rattle.def_recovery.specs.Events
 use Rattle.def_recovery.specs.Events.{Rubble, Event, World, result, happen, happen-all, is-restart, formatted}
-use Rattle.def_sessions.specs.Play.{Step, ask, cut, forge-page, forge-slot, forge-low-bits, Machine, numbers, Session, shows}
+use Rattle.def_sessions.specs.Play.{Step, ask, cut, forge-page, forge-slot, forge-work-page, forge-work-slot, forge-desk, forge-low-bits, Machine, numbers, Session, shows}
 
 -- What is lent: areas of these lengths.
 pub record LentFor (pages slots : ℕ) (l : Lent) : Type 0 where
@@ -31,6 +31,9 @@ restart-next (cut j c ∷ ss) = is-restart c
 restart-next (forge-page p x ∷ ss) = false
 restart-next (forge-slot n x ∷ ss) = false
 restart-next (forge-low-bits p w ∷ ss) = false
+restart-next (forge-work-page p x ∷ ss) = false
+restart-next (forge-work-slot n x ∷ ss) = false
+restart-next (forge-desk d ∷ ss) = false
 
 -- What a cut leaves: working areas of the same lengths. Before a restart their bytes and the desk are any; before another call, zeros and empty.
 pub record Leaves (pages slots : ℕ) (restarts : Bool) (left : Rubble) : Type 0 where
@@ -47,6 +50,9 @@ AllLeave pages slots (cut j c ∷ ss) left = Leaves pages slots (restart-next ss
 AllLeave pages slots (forge-page p x ∷ ss) left = AllLeave pages slots ss left
 AllLeave pages slots (forge-slot n x ∷ ss) left = AllLeave pages slots ss left
 AllLeave pages slots (forge-low-bits p w ∷ ss) left = AllLeave pages slots ss left
+AllLeave pages slots (forge-work-page p x ∷ ss) left = AllLeave pages slots ss left
+AllLeave pages slots (forge-work-slot n x ∷ ss) left = AllLeave pages slots ss left
+AllLeave pages slots (forge-desk d ∷ ss) left = AllLeave pages slots ss left
 
 -- ---- the session
 
@@ -58,6 +64,9 @@ events left (cut j c ∷ ss) = Events.cut c j (left (length ss)) ∷ events left
 events left (forge-page p x ∷ ss) = events left ss
 events left (forge-slot n x ∷ ss) = events left ss
 events left (forge-low-bits p w ∷ ss) = events left ss
+events left (forge-work-page p x ∷ ss) = events left ss
+events left (forge-work-slot n x ∷ ss) = events left ss
+events left (forge-desk d ∷ ss) = events left ss
 
 -- The answers of the calls that ended.
 unfoldable pub answered : Event → World → List (List ℕ)

@@ -7,13 +7,14 @@ use lib.Dec.{eqb}
 use Rattle.def_base.specs.Tests.{every}
 use Rattle.def_layout.specs.declared.Entry.{Entry}
 use Rattle.def_layout.specs.declared.Desk.{Desk}
-use Rattle.def_layout.specs.Desks.{empty-desk}
+use Rattle.def_layout.specs.declared.Row.{Row}
+use Rattle.def_layout.specs.Desks.{no-row, empty-desk, same-row}
 use Rattle.def_layout.specs.Numbers.{be32, put32, same-bytes}
 use Rattle.def_layout.specs.Entries.{same-entries}
 use Rattle.def_layout.specs.Pages.{at, zero-page, page-kind-number}
 use Rattle.def_layout.specs.PageBytes.{Block, page, page-bytes, block-bytes, read-block, left-in, without-left, with-left}
 use Rattle.def_layout.specs.Records.{kind-number}
-use Rattle.def_layout.specs.RecordBytes.{Slot}
+use Rattle.def_layout.specs.RecordBytes.{Slot, empty, slot-bytes}
 use Rattle.def_model.specs.Links.{left-at}
 use Rattle.def_model.specs.Areas.{Side, Areas, pages-of, zero-side, store-some}
 use Rattle.def_model.specs.Log.{slot-of}
@@ -24,12 +25,15 @@ use Rattle.def_model.specs.OnBytes.{Call, outcome}
 use Rattle.def_model.specs.CallNames.{format}
 
 -- A call that ends; one that is cut after so many of its stores, and leaves nothing of use in the working areas and the desk; or a stable page,
--- or the slot of a log number, or the last 12 bits of a working page's first word, in whose place something else is put.
+-- or the slot of a log number, or a working page or slot, or the desk, or the last 12 bits of a working page's first word, in whose place something else is put.
 pub data Step : Type 0 where
   ask : Call → Step
   cut : ℕ → Call → Step
   forge-page : ℕ → Block → Step
   forge-slot : ℕ → Slot → Step
+  forge-work-page : ℕ → Block → Step
+  forge-work-slot : ℕ → Slot → Step
+  forge-desk : Desk → Step
   forge-low-bits : ℕ → ℕ → Step
 
 -- The four areas, the desk, and the answers so far, each as 0 or the refusal and two values.
@@ -76,6 +80,9 @@ play-step (ask c) m = ended (outcome c (m .areas) (m .desk)) m
 play-step (cut j c) m = cut-off j (outcome c (m .areas) (m .desk)) m
 play-step (forge-page p x) m = let s = m .areas .stable in forged (record { pages = set (s .pages) p x; lefts = s .lefts; log = s .log }) m
 play-step (forge-slot n x) m = let s = m .areas .stable in forged (record { pages = s .pages; lefts = s .lefts; log = set (s .log) (slot-of n) x }) m
+play-step (forge-work-page p x) m = let s = m .areas .work in with-work (record { pages = set (s .pages) p x; lefts = s .lefts; log = s .log }) m
+play-step (forge-work-slot n x) m = let s = m .areas .work in with-work (record { pages = s .pages; lefts = s .lefts; log = set (s .log) (slot-of n) x }) m
+play-step (forge-desk d) m = record { areas = m .areas; desk = d; answers = m .answers }
 play-step (forge-low-bits p w) m = with-work (low-bits p w (m .areas .work)) m
 
 unfoldable pub play : List Step → Machine → Machine
@@ -100,7 +107,9 @@ pub data See : Type 0 where
   page-count : ℕ → ℕ → See
   page-bytes-from stored-bytes-from : ℕ → ℕ → List ℕ → See
   kinds-from : ℕ → List ℕ → See
-  previous-from : ℕ → List ℕ → See
+  previous-from batches-from : ℕ → List ℕ → See
+  slot-bytes-from : ℕ → ℕ → List ℕ → See
+  desk-row : ℕ → Row → See
   slides : List Entry → See
 
 unfoldable pub seen : Machine → See → Bool
@@ -114,6 +123,9 @@ seen m (page-bytes-from p i bs) = same-bytes (take (length bs) (drop i (with-lef
 seen m (stored-bytes-from p i bs) = same-bytes (take (length bs) (drop i (page-bytes (at (pages-of (m .areas .stable .pages)) p)))) bs
 seen m (kinds-from n ks) = same-bytes (map (λ r. kind-number (r .kind)) (drop (n - 1) (work-log (m .areas)))) ks
 seen m (previous-from n ps) = same-bytes (map (λ r. r .previous) (drop (n - 1) (work-log (m .areas)))) ps
+seen m (batches-from n bs) = same-bytes (map (λ r. r .batch) (drop (n - 1) (work-log (m .areas)))) bs
+seen m (slot-bytes-from n i bs) = same-bytes (take (length bs) (drop i (slot-bytes (getD (m .areas .work .log) (slot-of n) empty)))) bs
+seen m (desk-row i r) = same-row (getD (m .desk .rows) i no-row) r
 seen m (slides es) = same-entries (leaf-records (work-pages (m .areas))) es
 
 -- ---- a row of the table

@@ -4,7 +4,7 @@ use mathlib.Core.List.{List, [], _∷_, _++_, map}
 use lib.ListN.{replicate}
 use Rattle.def_layout.specs.Entries.{entry, top}
 use Rattle.def_model.specs.CallNames.{begin, restart, fetch, next, previous, insert, delete, commit, abort, write-out, take-mark, return-to}
-use Rattle.def_sessions.specs.Play.{Session, Step, ask, cut, See, page-keys, page-entries, page-right, page-left, page-kind-is, page-count, page-bytes-from, kinds-from, previous-from, slides}
+use Rattle.def_sessions.specs.Play.{Session, Step, ask, cut, See, page-keys, page-entries, page-right, page-left, page-kind-is, page-count, page-bytes-from, kinds-from, previous-from, batches-from, slot-bytes-from, desk-row, slides}
 
 -- ---- answers: 0 or the refusal, and two values
 
@@ -49,13 +49,19 @@ fifteen = 10 ∷ 20 ∷ 30 ∷ 40 ∷ 50 ∷ 60 ∷ 70 ∷ 80 ∷ 90 ∷ 100 ∷
 abbrev pub to-150 : List Step
 to-150 = ask begin ∷ inserts 1 fifteen
 
+-- The bytes of record 16, a split of page 1 into page 255: kind 9, 7 entries, level 0; own number; no batch, no previous record; A, B and C; key 70, second top, right link 0; the
+-- first entry.
+abbrev pub split-bytes : List ℕ
+split-bytes =
+    151 ∷ 0 ∷ 0 ∷ 0 ∷ 0 ∷ 0 ∷ 0 ∷ 16 ∷ replicate 8 0 ++ 0 ∷ 79 ∷ 240 ∷ 0 ∷ 0 ∷ 0 ∷ 0 ∷ 70 ∷ 255 ∷ 255 ∷ 255 ∷ 255 ∷ 0 ∷ 0 ∷ 0 ∷ 0 ∷ 0 ∷ 0 ∷ 0 ∷ 80 ∷ 0 ∷ 0 ∷ 0 ∷ 80 ∷ []
+
 -- "one batch inserts 10, 20 up to 150: the root keeps 10 to 70 with right link 255; page 255 holds 80 to 150; record 16 is the split, 17 the
 -- insert." And the map has bits 0, 1 and 255.
 abbrev pub a-split : Session
 a-split =
     usual to-150 (answers 1 ∷ replicate 15 done)
     (page-keys 1 (10 ∷ 20 ∷ 30 ∷ 40 ∷ 50 ∷ 60 ∷ 70 ∷ []) ∷ page-right 1 255 ∷ page-keys 255 (80 ∷ 90 ∷ 100 ∷ 110 ∷ 120 ∷ 130 ∷ 140 ∷ 150 ∷ [])
-    ∷ kinds-from 16 (9 ∷ 2 ∷ []) ∷ page-bytes-from 0 16 (192 ∷ replicate 30 0 ++ 1 ∷ 0 ∷ []) ∷ [])
+    ∷ kinds-from 16 (9 ∷ 2 ∷ []) ∷ slot-bytes-from 16 0 split-bytes ∷ page-bytes-from 0 16 (192 ∷ replicate 30 0 ++ 1 ∷ 0 ∷ []) ∷ [])
 
 -- "then 160: record 18 raises, root entries (70, page 254) and (top, page 255)."
 abbrev pub a-raise : Session
@@ -102,11 +108,15 @@ a-lower =
     usual (to-150 ++ inserts 1 (160 ∷ []) ++ deletes 1 (10 ∷ 20 ∷ 30 ∷ 40 ∷ 50 ∷ [])) (answers 1 ∷ replicate 21 done)
     (kinds-from 26 (15 ∷ 3 ∷ []) ∷ page-kind-is 254 0 ∷ page-keys 1 (60 ∷ 70 ∷ 80 ∷ 90 ∷ 100 ∷ 110 ∷ 120 ∷ 130 ∷ 140 ∷ 150 ∷ 160 ∷ []) ∷ [])
 
+-- The bytes of record 28, a link: kind 10; A the parent, B the page and C the new one after it; key and second their high keys.
+abbrev pub link-bytes : List ℕ
+link-bytes = 160 ∷ 0 ∷ 0 ∷ 0 ∷ 0 ∷ 0 ∷ 0 ∷ 28 ∷ replicate 8 0 ++ 0 ∷ 79 ∷ 227 ∷ 252 ∷ 0 ∷ 0 ∷ 0 ∷ 110 ∷ 255 ∷ 255 ∷ 255 ∷ 255 ∷ replicate 4 0
+
 -- 4 and 12 entries are shared out as 8 and 8, from the right page into the left.
 abbrev pub shared-left : Session
 shared-left =
     usual (to-150 ++ inserts 1 (160 ∷ 170 ∷ 180 ∷ 190 ∷ []) ++ deletes 1 (10 ∷ 20 ∷ 30 ∷ 40 ∷ [])) (answers 1 ∷ replicate 23 done)
-    (kinds-from 26 (11 ∷ 13 ∷ 10 ∷ 3 ∷ []) ∷ page-keys 254 (50 ∷ 60 ∷ 70 ∷ 80 ∷ 90 ∷ 100 ∷ 110 ∷ [])
+    (kinds-from 26 (11 ∷ 13 ∷ 10 ∷ 3 ∷ []) ∷ slot-bytes-from 28 0 link-bytes ∷ page-keys 254 (50 ∷ 60 ∷ 70 ∷ 80 ∷ 90 ∷ 100 ∷ 110 ∷ [])
     ∷ page-keys 255 (120 ∷ 130 ∷ 140 ∷ 150 ∷ 160 ∷ 170 ∷ 180 ∷ 190 ∷ []) ∷ page-entries 1 (entry 110 254 ∷ entry top 255 ∷ []) ∷ [])
 
 -- 12 and 4 entries, from the left page into the right, which is the last child.
@@ -116,6 +126,10 @@ shared-right =
     (kinds-from 30 (11 ∷ 13 ∷ 10 ∷ 3 ∷ []) ∷ page-keys 254 (10 ∷ 11 ∷ 12 ∷ 13 ∷ 14 ∷ 15 ∷ 20 ∷ 30 ∷ [])
     ∷ page-keys 255 (40 ∷ 50 ∷ 60 ∷ 70 ∷ 140 ∷ 150 ∷ 160 ∷ []) ∷ page-entries 1 (entry 30 254 ∷ entry top 255 ∷ []) ∷ [])
 
+-- The bytes of record 25, which undoes batch 17's insert of 150 on page 255: kind 4; its batch; nothing is left to undo.
+abbrev pub undo-bytes : List ℕ
+undo-bytes = 64 ∷ 0 ∷ 0 ∷ 0 ∷ 0 ∷ 0 ∷ 0 ∷ 25 ∷ 0 ∷ 0 ∷ 0 ∷ 17 ∷ 0 ∷ 0 ∷ 0 ∷ 0 ∷ 63 ∷ 192 ∷ 0 ∷ 0 ∷ 0 ∷ 0 ∷ 0 ∷ 150 ∷ replicate 8 0
+
 -- A batch that caused a split is aborted: its slide goes, the split stays, and so does the other batch's slide on the new page.
 abbrev pub an-abort : Session
 an-abort =
@@ -123,7 +137,7 @@ an-abort =
     (ask begin ∷ inserts 1 (10 ∷ 20 ∷ 30 ∷ 40 ∷ 50 ∷ 60 ∷ 70 ∷ 80 ∷ 90 ∷ 100 ∷ 110 ∷ 120 ∷ 130 ∷ 140 ∷ []) ++ ask (commit 1)
     ∷ ask begin ∷ ask (insert 17 150 150) ∷ ask begin ∷ ask (insert 20 85 85) ∷ ask (commit 20) ∷ ask (abort 17) ∷ [])
     (answers 1 ∷ replicate 14 done ++ done ∷ answers 17 ∷ done ∷ answers 20 ∷ done ∷ done ∷ done ∷ [])
-    (kinds-from 17 (1 ∷ 9 ∷ 2 ∷ 1 ∷ 14 ∷ 2 ∷ 6 ∷ 7 ∷ 4 ∷ 8 ∷ []) ∷ page-keys 255 (80 ∷ 85 ∷ 90 ∷ 100 ∷ 110 ∷ 120 ∷ 130 ∷ 140 ∷ []) ∷ [])
+    (kinds-from 17 (1 ∷ 9 ∷ 2 ∷ 1 ∷ 14 ∷ 2 ∷ 6 ∷ 7 ∷ 4 ∷ 8 ∷ []) ∷ slot-bytes-from 25 0 undo-bytes ∷ page-keys 255 (80 ∷ 85 ∷ 90 ∷ 100 ∷ 110 ∷ 120 ∷ 130 ∷ 140 ∷ []) ∷ [])
 
 -- Nothing was written out: the three inserts, two of the committed batch and one of the open one, are redone on page 1; then the open batch is ended.
 abbrev pub a-redo : Session
@@ -282,13 +296,27 @@ steps-back =
     ∷ answers 19 ∷ answers 20 ∷ done ∷ (0 ∷ 70 ∷ 70 ∷ []) ∷ refused 14 ∷ (0 ∷ 90 ∷ 90 ∷ []) ∷ (0 ∷ 70 ∷ 70 ∷ []) ∷ refused 12 ∷ [])
     (page-left 1 0 ∷ page-left 254 0 ∷ page-left 255 254 ∷ [])
 
+-- "Restart .. by batch number": four cases are open at a cut, two of them idle.
+abbrev pub restart-order : Session
+restart-order =
+    usual
+    (ask begin ∷ ask begin ∷ ask begin ∷ ask begin ∷ ask (insert 1 5 6) ∷ ask (insert 3 7 7) ∷ ask begin ∷ ask (commit 7) ∷ power-cut ∷ ask restart ∷ [])
+    (answers 1 ∷ answers 2 ∷ answers 3 ∷ answers 4 ∷ done ∷ done ∷ answers 7 ∷ done ∷ (0 ∷ 4 ∷ 2 ∷ []) ∷ [])
+    (kinds-from 9 (7 ∷ 7 ∷ 7 ∷ 7 ∷ 8 ∷ 8 ∷ 4 ∷ 8 ∷ 4 ∷ 8 ∷ []) ∷ batches-from 9 (1 ∷ 2 ∷ 3 ∷ 4 ∷ 2 ∷ 4 ∷ 3 ∷ 3 ∷ 1 ∷ 1 ∷ []) ∷ previous-from 9 (5 ∷ 2 ∷ 6 ∷ 4 ∷ 10 ∷ 12 ∷ 0 ∷ 15 ∷ 0 ∷ 17 ∷ []) ∷ [])
+
+-- The desk: "batch, its last record, the next to undo, how many are pending", a row an open batch.
+abbrev pub desk-rows : Session
+desk-rows =
+    usual (ask begin ∷ inserts 1 (5 ∷ 6 ∷ []) ++ ask begin ∷ ask (insert 4 7 7) ∷ ask (return-to 4 4) ∷ []) (answers 1 ∷ done ∷ done ∷ answers 4 ∷ done ∷ done ∷ [])
+    (desk-row 0 (record { batch = 1; last = 3; undo = 3; pending = 2 }) ∷ desk-row 1 (record { batch = 4; last = 6; undo = 0; pending = 0 }) ∷ desk-row 2 (record { batch = 0; last = 0; undo = 0; pending = 0 }) ∷ [])
+
 -- ---- the table
 
 abbrev pub rows : List Session
 rows =
     a-split ∷ a-raise ∷ a-merge ∷ a-held-key ∷ a-ninth ∷ enough-slots ∷ too-few-slots ∷ too-few-pages ∷ a-cut
     ∷ a-lower ∷ shared-left ∷ shared-right ∷ an-abort ∷ a-redo ∷ unstored-commit ∷ stored-commit ∷ console
-    ∷ next-held ∷ next-held-between ∷ steps-back ∷ each-refusal ∷ zero-key ∷ three-trays ∷ marks ∷ split-stays ∷ partly-back ∷ two-open ∷ three-open ∷ redo-of-changes ∷ two-inserts 256 100 done ∷ two-inserts 256 99 (refused 17) ∷ two-inserts 23 1024 done
+    ∷ next-held ∷ next-held-between ∷ steps-back ∷ each-refusal ∷ zero-key ∷ three-trays ∷ marks ∷ split-stays ∷ partly-back ∷ two-open ∷ three-open ∷ restart-order ∷ desk-rows ∷ redo-of-changes ∷ two-inserts 256 100 done ∷ two-inserts 256 99 (refused 17) ∷ two-inserts 23 1024 done
     ∷ two-inserts 22 1024 (refused 18) ∷ begin-fits ∷ begin-short ∷ []
 
 abbrev pub table : ℕ → List Session

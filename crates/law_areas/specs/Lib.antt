@@ -12,3 +12,4 @@ pub mod Formatting
 pub mod AsPieces
 pub mod WorkPages
 pub mod Outcomes
+pub mod LaidPages

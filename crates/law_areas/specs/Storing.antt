@@ -65,7 +65,7 @@ unfolding store-all-bytes slot-stores slots-from
 store-slot-stored l log r h room = records-stored l log (r ∷ []) h (omega arith)
 
 -- The first stores of a log are the stores of its first records.
-take-stores : (j n m : ℕ) (log : List Rec) → take j (slot-stores n (slots-from m log)) ≡ slot-stores n (slots-from m (take j log))
+pub take-stores : (j n m : ℕ) (log : List Rec) → take j (slot-stores n (slots-from m log)) ≡ slot-stores n (slots-from m (take j log))
 unfolding slot-stores slots-from
 take-stores zero n m log = refl
 take-stores (suc j) n m [] = refl
@@ -76,7 +76,7 @@ unfolding slot-stores slots-from
 stores-count n m [] = refl
 stores-count n m (r ∷ log) = ap suc (stores-count (suc n) (suc m) log)
 
-log-stores-are : (log more : List Rec) → log-stores (length log) (log ++ more) ≡ slot-stores (suc (length log)) (slots-from (suc (length log)) more)
+pub log-stores-are : (log more : List Rec) → log-stores (length log) (log ++ more) ≡ slot-stores (suc (length log)) (slots-from (suc (length log)) more)
 unfolding log-stores
 log-stores-are log more = ap (λ (r : List Rec). slot-stores (suc (length log)) (slots-from (suc (length log)) r)) (drop-append-seam log more)
 

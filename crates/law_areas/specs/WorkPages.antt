@@ -194,7 +194,7 @@ bare-links (x ∷ xs) f = (record { narrow = lit< tt; other = λ e. refl }, f 0 
 
 -- ---- links of leaves alone
 
-leaf-kind : (k : PageKind) → kind-is k leaf ≡ leaf? k
+pub leaf-kind : (k : PageKind) → kind-is k leaf ≡ leaf? k
 unfolding kind-is page-kind-number
 leaf-kind free = refl
 leaf-kind leaf = refl

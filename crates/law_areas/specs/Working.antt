@@ -3,7 +3,7 @@ use mathlib.Core.Path.{_≡_, refl, ap, ap₂, sym, _∙_, subst}
 use Prim.Native.Nat.{ℕ, zero, suc, _+_, _-_, _*_, _/_, _<_, _≤_}
 use native.Mathlib.Omega.{arith}
 use lib.Dec.{eqb, eqb·suc-zero, lit<}
-use mathlib.Core.List.{List, [], _∷_, _++_, map, map-append}
+use mathlib.Core.List.{List, [], _∷_, _++_, map, map-append, append-nil}
 use lib.ListN.{length, getD, drop, replicate, length-append, length-replicate, length-map, length-drop}
 use Rattle.def_base.specs.Tests.{pick}
 use Rattle.def_layout.specs.Numbers.{be32, put32, zeros}
@@ -17,7 +17,7 @@ use Rattle.law_bytes.specs.PageBytes.{Fits, page-bytes-length, read-block-back}
 use Rattle.law_bytes.specs.LeftLinks.{Links, left-said, left-gone}
 use Rattle.law_areas.specs.Parts.{Wide, joined-length, parts-joined, parts-length, map-same}
 use Rattle.law_areas.specs.Held.{Holds, holds-itself, holds-fit, holds-filled, holds-map}
-use Rattle.law_areas.specs.Pages.{AllPagesFit, filled, zero-bytes, zero-fits}
+use Rattle.law_areas.specs.Pages.{AllPagesFit, filled, filled-whole, zero-bytes, zero-fits}
 
 -- A page and its left link.
 pub record Linked : Type 0 where
@@ -172,6 +172,12 @@ module _ (m : ℕ) (xs : List Page) (ls : List ℕ) {area : List ℕ} (h : Holds
       ∙ holds-map page-size m linked-bytes none-there (paired xs ls) (lit< tt) blank-linked (wide-linked (paired xs ls)) held size left-in
       ∙ ap₂ (λ (ms : List ℕ) (l : ℕ). ms ++ replicate (m - length (paired xs ls)) l) (lefts-back (paired xs ls) fits) (ap left-in (sym blank-linked) ∙ left-said zero-page 0 zero-links)
       ∙ ap (λ k. map (λ y. y .left) (paired xs ls) ++ replicate (m - k) 0) (paired-length xs ls)
+
+  -- As many pages as the area has, and a link for each: nothing is filled up.
+  pub work-whole : length xs ≡ m → length ls ≡ length xs → AllLinks (paired xs ls) → (read-work area ≡ map page xs) × (read-lefts area ≡ ls)
+  work-whole e c fits =
+      let none : m - length xs ≡ 0 = omega arith in
+      (work-read fits ∙ ap (map page) (filled-whole m xs e), lefts-read fits ∙ ap₂ (λ a k. a ++ replicate k 0) (paired-lefts xs ls c) none ∙ append-nil ls)
 
 pub read-work-length : (m : ℕ) (area : List ℕ) → length area ≡ page-size * m → length (read-work area) ≡ m
 unfolding read-work

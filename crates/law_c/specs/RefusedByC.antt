@@ -54,7 +54,7 @@ module _ (c : Call) (desk : List ℕ) where
       go (no! e) = wrong-desk e
       go (yes! e) = let h = true-eq (length desk) desk-size e in right-desk false p h ∙ desk-bytes-back desk w h
 
-empty-desk-bytes : desk-bytes empty-desk ≡ zeros desk-size
+pub empty-desk-bytes : desk-bytes empty-desk ≡ zeros desk-size
 unfolding desk-bytes chunks row-bytes put32
 empty-desk-bytes = refl
 
@@ -70,26 +70,27 @@ values-kept values e = ap (λ b. pick b (value-bytes (Refused Lengths)) values) 
 
 -- ---- all of it
 
--- "1 area lengths wrong"; "A refusal gives zeros for other answers and changes nothing .. a refused format or restart gives an empty desk".
-pub record Leaves (c : Call) (l : Lent) (desk values : List ℕ) (r : Returned) : Type 0 where
-  pub reason : r .reason ≡ 1
-  pub areas : r .areas ≡ l
+-- "A refusal gives zeros for other answers and changes nothing .. a refused format or restart gives an empty desk": in the values and the desk's bytes.
+pub record Leaves (c : Call) (desk values : List ℕ) (r : Returned) : Type 0 where
   pub zero-values : length values ≡ values-size → r .values ≡ zeros values-size
   pub other-values : length values ≢ values-size → r .values ≡ values
   pub zero-desk : empties c ≡ true → length desk ≡ desk-size → r .desk ≡ zeros desk-size
   pub same-desk : empties c ≡ false → Bytes desk → r .desk ≡ desk
   pub other-desk : length desk ≢ desk-size → r .desk ≡ desk
 
-pub refused-for-length : (c : Call) (l : Lent) (desk values : List ℕ) → sizes-ok desk values ≡ false → Leaves c l desk values (c-call c l desk values)
+-- "1 area lengths wrong".
+pub refused-for-length : (c : Call) (l : Lent) (desk values : List ℕ) → sizes-ok desk values ≡ false
+    → (c-call c l desk values .reason ≡ 1) × (c-call c l desk values .areas ≡ l) × Leaves c desk values (c-call c l desk values)
 unfolding c-call returned-by
 refused-for-length c l desk values wrong =
-    let is : c-call c l desk values ≡ returned-by false c l desk values = ap (λ b. returned-by b c l desk values) wrong in
-    record {
-      reason = ap (λ r. r .reason) is;
-      areas = ap (λ r. r .areas) is;
-      zero-values = λ e. ap (λ r. r .values) is ∙ values-zeroed values e;
-      other-values = λ n. ap (λ r. r .values) is ∙ values-kept values (neq-false n);
-      zero-desk = λ p e. ap (λ r. r .desk) is ∙ desk-emptied c desk p e ∙ empty-desk-bytes;
-      same-desk = λ p w. ap (λ r. r .desk) is ∙ desk-kept c desk p w;
-      other-desk = λ n. ap (λ r. r .desk) is ∙ wrong-desk c desk (neq-false n);
-    }
+    let is : c-call c l desk values ≡ returned-by false c l desk values = ap (λ b. returned-by b c l desk values) wrong in (
+      ap (λ r. r .reason) is,
+      ap (λ r. r .areas) is,
+      record {
+        zero-values = λ e. ap (λ r. r .values) is ∙ values-zeroed values e;
+        other-values = λ n. ap (λ r. r .values) is ∙ values-kept values (neq-false n);
+        zero-desk = λ p e. ap (λ r. r .desk) is ∙ desk-emptied c desk p e ∙ empty-desk-bytes;
+        same-desk = λ p w. ap (λ r. r .desk) is ∙ desk-kept c desk p w;
+        other-desk = λ n. ap (λ r. r .desk) is ∙ wrong-desk c desk (neq-false n);
+      },
+    )

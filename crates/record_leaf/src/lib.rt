@@ -35,12 +35,12 @@ const LAST_VALUE_AT: usize = page::VALUES_AT - ENTRY_SIZE;
 
 // Where a key belongs among entries, and whether none of them has it, in order or not.
 struct Sought {
-    place: usize,
+    place: u8,
     missing: bool,
 }
 
 // With entry i before the others, which has the key x: where k belongs now.
-fn place_with(place: usize, i: usize, x: u32, k: u32) -> usize
+fn place_with(place: u8, i: u8, x: u32, k: u32) -> u8
     ensures { λ r. ⌜ r ≡ pick (ltb x k) place i ⌝ }
 {
     if x < k {
@@ -59,9 +59,9 @@ fn missing_with(missing: bool, x: u32, k: u32) -> bool
     missing
 }
 
-// Among n entries: the place of the first whose key is not below k, or n. All are looked at, from the last on, and no test ends the loop: where a
-// key stands cannot be foreseen, and a jump that was guessed wrong takes longer than the other entries.
-fn seek(b: &[u8], n: usize, k: u32) -> Sought
+// Among n entries, in 8 bits as `find`: the place of the first whose key is not below k, or n. All are looked at, from the last on, and no test
+// ends the loop: where a key stands cannot be foreseen, and a jump that was guessed wrong takes longer than the other entries.
+fn seek(b: &[u8], n: u8, k: u32) -> Sought
     requires { ⌜ (length (now b) ≡ page-size) × (n ≤ room) ⌝ }
     ensures { λ r. ⌜ (r .place ≡ place k (used n (shown (now (b .entry))))) × (r .missing ≡ nowhere k (used n (shown (now (b .entry))))) × (r .place ≤ n) ⌝ }
 {
@@ -70,7 +70,7 @@ fn seek(b: &[u8], n: usize, k: u32) -> Sought
     let mut i = n;
     while 0 < i {
         i -= 1;
-        let x = get32(b, page::ENTRIES_AT + ENTRY_SIZE * i);
+        let x = get32(b, page::ENTRIES_AT + ENTRY_SIZE * (i as usize));
         place = place_with(place, i, x, k);
         missing = missing_with(missing, x, k);
     }
@@ -134,11 +134,11 @@ fn file_slide(b: &mut [u8], own: u32, k: u32, v: u32) -> bool
     }
     let mut old = [0u8; ENTRIES_SIZE];
     copy(&mut old, &b[page::ENTRIES_AT..PAGE_SIZE]);
-    let s = seek(b, n, k);
+    let s = seek(b, n as u8, k);
     if !s.missing {
         return false;
     }
-    let i = s.place;
+    let i = s.place as usize;
     put_in(b, &old, n, i, k, v);
     stamp(b, w + page::COUNT_UNIT, own);
     true
@@ -159,8 +159,8 @@ fn strike_slide(b: &mut [u8], own: u32, k: u32, v: u32) -> bool
     }
     let mut old = [0u8; ENTRIES_SIZE];
     copy(&mut old, &b[page::ENTRIES_AT..PAGE_SIZE]);
-    let s = seek(b, n, k);
-    let i = s.place;
+    let s = seek(b, n as u8, k);
+    let i = s.place as usize;
     if i >= n {
         return false;
     }

@@ -22,7 +22,8 @@ use Rattle.law_bytes.specs.LeftFields.{alike-fields, without-alike}
 use Rattle.law_areas.specs.Typed.{pages-back}
 use Rattle.law_areas.specs.Pages.{AllPagesFit}
 use Rattle.law_areas.specs.Working.{AllLinks, paired}
-use Rattle.sound_parts.specs.Laid.{laid-page, all-fit}
+use Rattle.law_areas.specs.LaidPages.{laid-page}
+use Rattle.sound_parts.specs.Laid.{all-fit}
 
 -- The area's n pages are those that its bytes show, with the left links that they show, and nothing else stands there.
 pub record LaidWork (n : ℕ) (area : List ℕ) : Type 0 where

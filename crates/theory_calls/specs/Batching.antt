@@ -46,7 +46,8 @@ use Rattle.theory_calls.specs.LiveAreas.{Holds, live-log, live-slots, st
 use Rattle.theory_calls.specs.Checks.{none-broken, kept-check, sound-parts, live-batch, some-of, found-open}
 use Rattle.theory_calls.specs.Within.{return-within, abort-within}
 use Rattle.theory_calls.specs.Results.{story-more, standing, run-log, run-due, run-within, calm-passes}
-use Rattle.theory_calls.specs.Passing.{is-commit, by-commit-record, Stored, the-log, by-commit, Passes, emit-room, standing-slides}
+use Rattle.theory_reserve.specs.LineRoom.{emit-room}
+use Rattle.theory_calls.specs.Passing.{is-commit, by-commit-record, Stored, the-log, by-commit, Passes, standing-slides}
 
 -- ---- what the reserves give
 

@@ -4,13 +4,12 @@ use mathlib.Core.Path.{_≡_, subst}
 use mathlib.Core.Bool.{Bool, true, false}
 use mathlib.Core.List.{List, [], _∷_, _++_}
 use lib.ListN.{length}
-use Rattle.def_base.specs.Tests.{lt-true}
 use Rattle.def_layout.specs.declared.Entry.{Entry}
 use Rattle.def_layout.specs.declared.Desk.{Desk}
 use Rattle.def_layout.specs.Pages.{at}
 use Rattle.def_layout.specs.Records.{Rec}
 use Rattle.def_model.specs.Fit.{found}
-use Rattle.def_model.specs.Update.{Run, emit}
+use Rattle.def_model.specs.Update.{Run}
 use Rattle.def_model.specs.Answers.{Outcome}
 use Rattle.def_model.specs.Areas.{Areas, Store, store-page, log-stores}
 use Rattle.def_model.specs.Calls.{run-of, run-side}
@@ -18,7 +17,7 @@ use Rattle.def_model.specs.OnBytes.{Call, request, commit, outcome}
 use Rattle.def_recovery.specs.Book.{Book, book-call, commits}
 use Rattle.def_recovery.specs.Events.{fed}
 use Rattle.def_recovery.specs.Demand3.{is-commit-of}
-use Rattle.theory_update.specs.Run.Way.{written-by, emit-goes}
+use Rattle.theory_update.specs.Run.Way.{written-by}
 use Rattle.theory_history.specs.Origin.{Origin}
 use Rattle.theory_history.specs.Start.{slides-after}
 use Rattle.theory_history.specs.Core.{NextRecord}
@@ -65,10 +64,6 @@ pub record Passes (o : Origin) (n m : ℕ) (stable log : List Rec) (c : Call) (a
   pub book : book-of c (outcome c a d) (story o log) ≡ story o (run .log)
 
 -- ---- runs
-
--- A run that has room logs its next record.
-pub emit-room : (r : Rec) (s : Run) → s .stop ≡ 0 → 0 < s .room → emit r s ≡ written-by r s
-emit-room r s z l = emit-goes r s z (lt-true 0 (s .room) l)
 
 pub standing-slides : (o : Origin) (n : ℕ) (s : Run) (sl : List Entry) → Standing o n s sl → Standing o n s (slides-after o (s .log))
 standing-slides o n s sl x = subst (Standing o n s) (x .slides) x

@@ -13,7 +13,7 @@ use Rattle.def_model.specs.Redo.{redo-record, redo-fits}
 use Rattle.def_model.specs.TreeRules.{Node}
 use Rattle.theory_redo.specs.OnePage.{run1, below1, run-ok}
 use Rattle.theory_redo.specs.Area.{lsn-of, length-redo-record, get-record}
-use Rattle.theory_redo.specs.Current.{Behind}
+use Rattle.theory_redo.specs.Current.{Behind, behind-more, current-behind, base-current}
 use Rattle.theory_redo.specs.Count.{AllInside, names-inside}
 use Rattle.theory_redo.specs.Fits.{page-fitted, redo-fits-behind}
 use Rattle.theory_tree.specs.Shape.Rules.{Rules, pages-pos}
@@ -68,3 +68,10 @@ pub never-five : (base : List Page) (ls ls′ : List (List Node)) (log : List Re
     → length pages ≡ length base → Behind 1 (at base) log pages → redo-fits 1 log pages ≡ true
 never-five base ls ls′ log pages w k l c s e b =
     redo-fits-behind 1 (at base) log pages (lows-everywhere 0 base l) (subst (λ m. AllInside m log) (sym e) (lawful-inside w k l s)) (λ p h. lawful-fits w k l c s p (omega arith)) b
+
+-- From pages that no record of the log was done to, whatever its first number.
+pub never-five-from : (n : ℕ) (base : List Page) (ls ls′ : List (List Node)) (log : List Rec) → Lawful (suc n) base ls log ls′ → Rules base ls
+    → Lows (suc n) base → Clean base → length base ≤ map-bits → redo-fits (suc n) log base ≡ true
+never-five-from n base ls ls′ log w k l c s =
+    redo-fits-behind (suc n) (at base) log base (lows-everywhere n base l) (lawful-inside w k l s) (λ p h. lawful-fits w k l c s p h)
+    (behind-more (suc n) (at base) [] log base (current-behind (suc n) (at base) [] base (base-current (suc n) (at base) base (λ p h. refl))))

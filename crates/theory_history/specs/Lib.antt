@@ -9,9 +9,11 @@ pub mod Updating
 pub mod BatchData
 pub mod Undoing
 pub mod OwnRecords
+pub mod LatestRecords
 pub mod Marking
 pub mod Settling
 pub mod History
 pub mod Growing
 pub mod Linking
 pub mod Redoing
+pub mod Points

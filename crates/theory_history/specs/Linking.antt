@@ -1,19 +1,21 @@
--- The left links of the pages that a history leads to follow from those pages alone (02, U5).
-use Prim.Native.Nat.{ℕ, zero, suc, _+_, _-_, _≤_, _<_}
+-- LEFT LINKS WORKED OUT (02, U5) are links that their pages may have; those of the pages that a history leads to follow from the pages alone.
+use Prim.Native.Nat.{ℕ, _+_, _-_, _≤_, _<_}
 use mathlib.Core.Path.{_≡_, refl, sym, ap, _∙_, subst}
 use mathlib.Core.List.{List, [], _∷_, _++_, append-nil}
 use native.Mathlib.Omega.{arith}
-use lib.ListN.{length, getD, replicate, replicate-append-replicate}
+use native.Mathlib.Decide.{decLt}
+use lib.ListN.{length, getD, replicate, replicate-append-replicate, List·getD-eq-default}
 use lib.Dec.{lit<}
-use Rattle.def_base.specs.Tests.{clash}
-use Rattle.def_layout.specs.Pages.{Page, leaf, map-bits, storage-map, zero-page, at}
+use Rattle.def_base.specs.Tests.{pick, Case, yes!, no!, case, clash}
+use Rattle.def_layout.specs.Pages.{Page, leaf, kind-is, map-bits, storage-map, zero-page, at}
 use Rattle.def_layout.specs.Records.{Rec}
 use Rattle.def_model.specs.TreeRules.{Node, levels-of, bottom}
 use Rattle.def_model.specs.Links.{relink, of-leaves, relinked}
 use Rattle.law_bytes.specs.LeftLinks.{leaf?, Links}
+use Rattle.law_areas.specs.WorkPages.{leaf-kind}
 use Rattle.theory_tree.specs.Shape.Chains.{All}
 use Rattle.theory_tree.specs.Shape.Rules.{Rules, pages-pos}
-use Rattle.theory_tree.specs.Shape.LeftLinks.{relinked-length, relink-longer, relink-each, no-leaves, leaves-inside, leaves-are}
+use Rattle.theory_tree.specs.Shape.LeftLinks.{relinked-length, of-leaves-length, of-leaves-at, relink-longer, relink-each, no-leaves, leaves-inside, leaves-are}
 use Rattle.theory_tree.specs.Test.Test.{test-sound, rules-levels}
 use Rattle.theory_update.specs.Run.Lawful.{Lawful}
 use Rattle.theory_fit.specs.Clean.{Clean}
@@ -24,6 +26,36 @@ use Rattle.theory_history.specs.Origin.{Origin, origin-pages, origin-len
 use Rattle.theory_history.specs.Start.{pages-after, after-is, length-after}
 use Rattle.theory_history.specs.History.{History, history-now}
 use Rattle.theory_history.specs.Growing.{grown-rules}
+
+-- ---- worked out, in ten bits
+
+-- Links of ten bits each.
+abbrev pub NarrowLinks : List ℕ → Type 0
+NarrowLinks ls = (p : ℕ) → getD ls p 0 < 1024
+
+-- WORKED OUT FROM SUCH LINKS, each is one that its page may have.
+module _ (xs : List Page) (few : length xs ≤ map-bits) (k : Rules xs (levels-of xs)) (ls : List ℕ) (w : NarrowLinks ls) where
+  of-leaf : (p : ℕ) → Case (kind-is (at xs p .kind) leaf) → Links (at xs p) (pick (kind-is (at xs p .kind) leaf) (getD ls p 0) 0)
+  of-leaf p (yes! e) = rw e (record { narrow = w p; other = λ f. clash (sym (sym (leaf-kind (at xs p .kind)) ∙ e) ∙ f) })
+  of-leaf p (no! e) = rw e (record { narrow = lit< tt; other = λ f. refl })
+
+  -- Those of leaves as they were, all others none.
+  kept-links : (p : ℕ) → Dec (p < length xs) → Links (at xs p) (getD (of-leaves xs ls) p 0)
+  kept-links p (yes h) = subst (Links (at xs p)) (sym (of-leaves-at xs ls p h)) (of-leaf p (case (kind-is (at xs p .kind) leaf)))
+  kept-links p (no h) = let e = of-leaves-length xs ls in subst (Links (at xs p)) (sym (List·getD-eq-default (of-leaves xs ls) 0 {n = p} (omega arith))) (record { narrow = lit< tt; other = λ f. refl })
+
+  narrow-leaves : (ns : List Node) → All (λ x. (at xs (x .page) .kind ≡ leaf) × (x .page < length xs)) ns → All (λ x. (at xs (x .page) .kind ≡ leaf) × (x .page < 1024)) ns
+  unfolding All
+  narrow-leaves [] a = tt
+  narrow-leaves (x ∷ ns) a = let i = a .0 .1 in ((a .0 .0, omega arith), narrow-leaves ns (a .1))
+
+  pub relinked-links : (p : ℕ) → Links (at xs p) (getD (relinked xs ls) p 0)
+  unfolding relinked
+  relinked-links p =
+      relink-each (λ p l. Links (at xs p) l) (λ p. at xs p .kind ≡ leaf) (λ l. l < 1024) (λ p l e i. record { narrow = i; other = λ f. clash (sym (ap leaf? e) ∙ f) })
+      0 (bottom (levels-of xs)) (of-leaves xs ls) (lit< tt) (narrow-leaves (bottom (levels-of xs)) (leaves-are xs k)) (λ p. kept-links p (decLt p (length xs))) p
+
+-- ---- a history
 
 module _ (o : Origin) (n : ℕ) (most : n ≤ map-bits) (log : List Rec) (h : History o n log) where
   pub history-rules : Rules (pages-after o n log) (levels-of (pages-after o n log))
@@ -52,25 +84,7 @@ module _ (o : Origin) (n : ℕ) (most : n ≤ map-bits) (log : List Rec) (h : Hi
 
   -- Each is one that its page may have.
   pub history-linked : (p : ℕ) → Links (at (pages-after o n log) p) (getD own-links p 0)
-  unfolding relinked All
-  history-linked p =
-      let e = length-after o n log in
-      subst (λ ls. Links (at (pages-after o n log) p) (getD (relink 0 (bottom (levels-of (pages-after o n log))) ls) p 0)) (sym (no-leaves (pages-after o n log)))
-      (relink-each (λ p l. Links (at (pages-after o n log) p) l) (λ p. at (pages-after o n log) p .kind ≡ leaf) (λ l. l < 1024)
-      (λ p l k w. record { narrow = w; other = λ f. clash (sym (ap leaf? k) ∙ f) })
-      0 (bottom (levels-of (pages-after o n log))) (replicate (length (pages-after o n log)) 0) (lit< tt)
-      (narrow (bottom (levels-of (pages-after o n log))) (leaves-are (pages-after o n log) history-rules))
-      (λ p. subst (Links (at (pages-after o n log) p)) (sym (none-at (length (pages-after o n log)) p)) (record { narrow = lit< tt; other = λ f. refl })) p)
-    where
-      none-at : (k p : ℕ) → _≡_ {A = ℕ} (getD (replicate k 0) p 0) 0
-      none-at zero p = refl
-      none-at (suc k) zero = refl
-      none-at (suc k) (suc p) = none-at k p
-
-      narrow : (ns : List Node) → All (λ x. (at (pages-after o n log) (x .page) .kind ≡ leaf) × (x .page < length (pages-after o n log))) ns
-          → All (λ x. (at (pages-after o n log) (x .page) .kind ≡ leaf) × (x .page < 1024)) ns
-      narrow [] a = tt
-      narrow (x ∷ ns) a = let e = length-after o n log in let i = a .0 .1 in ((a .0 .0, omega arith), narrow ns (a .1))
+  history-linked p = let e = length-after o n log in relinked-links (pages-after o n log) (omega arith) history-rules [] (λ q. lit< tt) p
 
 -- GROWN PAGES: the links there were, and none after them.
 pub links-longer : (o : Origin) (k n : ℕ) → o .least ≤ k → k ≤ n → n ≤ map-bits → (log : List Rec) → History o k log → pages-after o n log ≡ pages-after o k log ++ replicate (n - k) zero-page

@@ -18,7 +18,7 @@ use Rattle.theory_history.specs.Core.{RowsOk}
 
 -- ---- a record of a batch, in a log that grows
 
-of-parts : (b n : ℕ) (log : List Rec) → 0 < n → n ≤ length log → record-at log n .batch ≡ b → is-record-of b n log ≡ true
+pub of-parts : (b n : ℕ) (log : List Rec) → 0 < n → n ≤ length log → record-at log n .batch ≡ b → is-record-of b n log ≡ true
 unfolding is-record-of
 of-parts b n log p l e = and-both (lt-true 0 n p) (and-both (le-true n (length log) l) (eq-true b (record-at log n .batch) (sym e)))
 
@@ -92,7 +92,7 @@ own-tell redistribute log r bs e h = own-more log (r ∷ []) bs h
 own-tell raise log r bs e h = own-more log (r ∷ []) bs h
 own-tell lower log r bs e h = own-more log (r ∷ []) bs h
 
-says : (m : ℕ) (r : Rec) → row m r ≡ true → row-says (r .kind) m r ≡ true
+pub says : (m : ℕ) (r : Rec) → row m r ≡ true → row-says (r .kind) m r ≡ true
 unfolding row
 says m r e = and-true (leb (length (r .entries)) room) _ (and-true (named-only (carries (r .kind)) r) _ e .1) .1
 

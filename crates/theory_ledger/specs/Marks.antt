@@ -57,11 +57,11 @@ kept-none n (l ∷ ls) h = go (case (ltb 0 (l .number))) (kept-none (l .number) 
     go (yes! t) i = rw (t, i)
     go (no! t) i = let a = false-lt 0 (l .number) t in let b = h .0 in absurd (omega arith)
 
-in-first : {x y : Line} {ys : List Line} → In x (y ∷ ys) → (x ≡ y) ⊎ In x ys
+pub in-first : {x y : Line} {ys : List Line} → In x (y ∷ ys) → (x ≡ y) ⊎ In x ys
 in-first here = inl refl
 in-first (there i) = inr i
 
-in-falls : (n : ℕ) (x : Line) (ls : List Line) → Falls n ls → In x ls → x .number < n
+pub in-falls : (n : ℕ) (x : Line) (ls : List Line) → Falls n ls → In x ls → x .number < n
 unfolding Falls any
 in-falls n x [] h i = clash (sym (in-any (λ (y : Line). true) x i refl))
 in-falls n x (l ∷ ls) h i = go (in-first i) (in-falls (l .number) x ls (h .2))

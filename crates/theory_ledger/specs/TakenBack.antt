@@ -1,33 +1,53 @@
--- LINES TAKEN BACK down to a mark leave the list that the lines kept make of what the batch found (02, U2).
-use Prim.Native.Nat.{ℕ}
+-- LINES TAKEN BACK down to a mark (02, U2): what every key has then, and that it is what the lines kept make of what the batch found.
+use Prim.Native.Nat.{ℕ, _≤_, _<_}
 use mathlib.Core.Path.{_≡_, refl, sym, ap, _∙_, subst}
 use mathlib.Core.Logic.{_≢_, _⊎_, inl, inr}
-use mathlib.Core.Option.{Option, some}
+use mathlib.Core.Option.{Option, none, some}
 use mathlib.Core.Bool.{Bool, true, false}
 use mathlib.Core.List.{List, [], _∷_}
+use native.Mathlib.Omega.{arith}
 use native.Mathlib.Decide.{ℕ-discrete}
 use lib.Dec.{ltb, eqb}
-use Rattle.def_base.specs.Tests.{pick, Case, yes!, no!, case, none-some, some-inj}
+use Rattle.def_base.specs.Tests.{pick, Case, yes!, no!, case, clash, any, none-some, some-inj, lt-true, true-lt, true-eq, eq-true, neq-false}
 use Rattle.def_layout.specs.declared.Entry.{Entry}
 use Rattle.def_layout.specs.Entries.{look}
 use Rattle.def_model.specs.Batches.{Line, Batch, find-batch}
 use Rattle.theory_tree.specs.Order.Keys.{Rising}
 use Rattle.theory_tree.specs.Order.Sorted.{look-ext}
-use Rattle.theory_ledger.specs.Runs.{Off, Does, Runs, runs-inv, runs-off, apply-line, carry-lines, apply-rising, apply-look, apply-other}
-use Rattle.theory_ledger.specs.Held.{AllOff, Held, passing, holding, found-off}
+use Rattle.theory_ledger.specs.Runs.{Off, DoesBy, Does, Runs, runs-inv, runs-off, apply-line, carry-lines, apply-rising, apply-look, apply-other}
+use Rattle.theory_ledger.specs.Held.{AllOff, Held, passing, holding, found-off, false-neq}
+use Rattle.theory_ledger.specs.HeldBy.{In, here, there, in-any}
+use Rattle.theory_ledger.specs.Batching.{Falls}
 use Rattle.theory_ledger.specs.Settles.{undo-apply, undo-rising, undo-look, undo-other}
-use Rattle.theory_ledger.specs.Marks.{kept, taken-back}
+use Rattle.theory_ledger.specs.Marks.{kept, taken-back, in-first, in-falls}
 
 -- The lines run on every key to what the list has.
 abbrev RunTo : List Line → List Entry → Type 0
 RunTo ls es = (k : ℕ) → (o : Option ℕ) × Runs k o ls (look k es)
 
--- What the batch found, from which its lines made the list, and those kept make what is left.
+-- What an update found at its key: no slide where it added one, the slide's value where it removed one.
+unfoldable pub line-found : (adds : Bool) → (value : ℕ) → Option ℕ
+line-found true v = none
+line-found false v = some v
+
+-- THE VALUE OF KEY k once the lines above the mark are taken back, where it is o with them: what the oldest of them on k found, o if none is on k
+-- (`back-oldest`, `back-none`).
+unfoldable pub value-back : (mark k : ℕ) → List Line → Option ℕ → Option ℕ
+value-back mark k [] o = o
+value-back mark k (l ∷ ls) o = pick (ltb mark (l .number)) (value-back mark k ls (pick (eqb k (l .key)) (line-found (l .adds) (l .value)) o)) o
+
+-- `taken-back 0` is what the batch found: its lines make the list of it, and those kept make what is left.
 pub record Back (mark : ℕ) (ls : List Line) (es : List Entry) : Type 0 where
-  pub found : List Entry
-  pub rises : Rising 0 found
-  pub carried : carry-lines ls found ≡ es
-  pub left : carry-lines (kept mark ls) found ≡ taken-back mark ls es
+  pub rises : Rising 0 (taken-back mark ls es)
+  pub at-key : (k : ℕ) → look k (taken-back mark ls es) ≡ value-back mark k ls (look k es)
+  pub carried : carry-lines ls (taken-back 0 ls es) ≡ es
+  pub left : carry-lines (kept mark ls) (taken-back 0 ls es) ≡ taken-back mark ls es
+
+-- A line takes what it found to what is there.
+does-found : (b : Bool) (v : ℕ) (m c : Option ℕ) → DoesBy b v m c → m ≡ line-found b v
+unfolding DoesBy line-found
+does-found true v m c d = d .0
+does-found false v m c d = d .0
 
 -- The newest line, and the list before it.
 module _ (l : Line) (ls : List Line) (es : List Entry) (r : Rising 0 es) (h : RunTo (l ∷ ls) es) where
@@ -53,6 +73,13 @@ module _ (l : Line) (ls : List Line) (es : List Entry) (r : Rising 0 es) (h : Ru
   unfolding before
   before-other k n = undo-other (l .adds) k (l .key) (l .value) es r n
 
+  before-look : (k : ℕ) → look k before ≡ pick (eqb k (l .key)) (line-found (l .adds) (l .value)) (look k es)
+  before-look k = go (case (eqb k (l .key)))
+    where
+      go : Case (eqb k (l .key)) → look k before ≡ pick (eqb k (l .key)) (line-found (l .adds) (l .value)) (look k es)
+      go (yes! t) = rw t (ap (λ j. look j before) (true-eq k (l .key) t) ∙ before-own ∙ does-found (l .adds) (l .value) (own .0) (look (l .key) es) (own .3))
+      go (no! t) = rw t (before-other k (false-neq k (l .key) t))
+
   before-runs : RunTo ls before
   before-runs k = go (ℕ-discrete k (l .key))
     where
@@ -74,19 +101,62 @@ module _ (l : Line) (ls : List Line) (es : List Entry) (r : Rising 0 es) (h : Ru
       at d k (yes e) = subst (λ j. look j (apply-line l before) ≡ look j es) (sym e) (apply-look (l .adds) (l .key) (l .value) before _ before-rises d)
       at d k (no n) = apply-other (l .adds) k (l .key) (l .value) before before-rises n ∙ before-other k n
 
-pub lines-taken-back : (mark : ℕ) (ls : List Line) (es : List Entry) → Rising 0 es → RunTo ls es → Back mark ls es
-unfolding carry-lines kept taken-back before
-lines-taken-back mark [] es r h = record { found = es; rises = r; carried = refl; left = refl }
-lines-taken-back mark (l ∷ ls) es r h = go (lines-taken-back mark ls (before l ls es r h) (before-rises l ls es r h) (before-runs l ls es r h))
+pub lines-taken-back : (mark n : ℕ) (ls : List Line) (es : List Entry) → Falls n ls → Rising 0 es → RunTo ls es → Back mark ls es
+unfolding carry-lines kept taken-back value-back Falls before
+lines-taken-back mark n [] es f r h = record { rises = r; at-key = λ k. refl; carried = refl; left = refl }
+lines-taken-back mark n (l ∷ ls) es f r h = go (lines-taken-back mark (l .number) ls (before l ls es r h) (f .2) (before-rises l ls es r h) (before-runs l ls es r h))
   where
     go : Back mark ls (before l ls es r h) → Back mark (l ∷ ls) es
     go x =
-        let c : carry-lines (l ∷ ls) (x .found) ≡ es = ap (apply-line l) (x .carried) ∙ again l ls es r h in
-        record { found = x .found; rises = x .rises; carried = c; left = by (ltb mark (l .number)) c }
+        let c = ap (carry-lines (l ∷ ls)) first ∙ ap (apply-line l) (x .carried) ∙ again l ls es r h in
+        record { rises = up (ltb mark (l .number)); at-key = λ k. at k (ltb mark (l .number)); carried = c; left = by (ltb mark (l .number)) c }
       where
-        by : (b : Bool) → apply-line l (carry-lines ls (x .found)) ≡ es → carry-lines (pick b (kept mark ls) (l ∷ ls)) (x .found) ≡ pick b (taken-back mark ls (undo-apply l es)) es
-        by true c = x .left
+        -- The newest goes first: every number is above 0.
+        first : taken-back 0 (l ∷ ls) es ≡ taken-back 0 ls (undo-apply l es)
+        first = ap (λ t. pick t (taken-back 0 ls (undo-apply l es)) es) (lt-true 0 (l .number) (f .0))
+
+        up : (b : Bool) → Rising 0 (pick b (taken-back mark ls (undo-apply l es)) es)
+        up true = x .rises
+        up false = r
+
+        at : (k : ℕ) (b : Bool) → look k (pick b (taken-back mark ls (undo-apply l es)) es) ≡ pick b (value-back mark k ls (pick (eqb k (l .key)) (line-found (l .adds) (l .value)) (look k es))) (look k es)
+        at k true = x .at-key k ∙ ap (value-back mark k ls) (before-look l ls es r h k)
+        at k false = refl
+
+        by : (b : Bool) → carry-lines (l ∷ ls) (taken-back 0 (l ∷ ls) es) ≡ es → carry-lines (pick b (kept mark ls) (l ∷ ls)) (taken-back 0 (l ∷ ls) es) ≡ pick b (taken-back mark ls (undo-apply l es)) es
+        by true c = ap (carry-lines (kept mark ls)) first ∙ x .left
         by false c = c
+
+-- ---- a key's value, in words
+
+-- No update above the mark is on k: it stays as it is.
+pub back-none : (mark k : ℕ) (ls : List Line) (o : Option ℕ) → ((x : Line) → In x ls → mark < x .number → k ≢ x .key) → value-back mark k ls o ≡ o
+unfolding value-back
+back-none mark k [] o h = refl
+back-none mark k (l ∷ ls) o h = go (case (ltb mark (l .number))) (back-none mark k ls o (λ x i. h x (there i)))
+  where
+    go : Case (ltb mark (l .number)) → value-back mark k ls o ≡ o → pick (ltb mark (l .number)) (value-back mark k ls (pick (eqb k (l .key)) (line-found (l .adds) (l .value)) o)) o ≡ o
+    go (yes! t) i = rw (t, neq-false (h l here (true-lt mark (l .number) t)), i)
+    go (no! t) i = rw t refl
+
+-- Some are: it is what the oldest of them, x, found.
+pub back-oldest : (mark n k : ℕ) (ls : List Line) (o : Option ℕ) (x : Line) → Falls n ls → In x ls → mark < x .number → k ≡ x .key → ((z : Line) → In z ls → mark < z .number → k ≡ z .key → x .number ≤ z .number)
+    → value-back mark k ls o ≡ line-found (x .adds) (x .value)
+unfolding value-back Falls any
+back-oldest mark n k [] o x f i m e h = clash (sym (in-any (λ (y : Line). true) x i refl))
+back-oldest mark n k (l ∷ ls) o x f i m e h = go (in-first i) (λ p j. back-oldest mark (l .number) k ls p x (f .2) j m e (λ z q. h z (there q)))
+  where
+    above : (x ≡ l) ⊎ In x ls → ltb mark (l .number) ≡ true
+    above (inl q) = let c : x .number ≡ l .number = ap (λ y. y .number) q in lt-true mark (l .number) (omega arith)
+    above (inr j) = let c = in-falls (l .number) x ls (f .2) j in lt-true mark (l .number) (omega arith)
+
+    -- No older one is on k.
+    older : x ≡ l → (z : Line) → In z ls → mark < z .number → k ≢ z .key
+    older q z j m e = let c : x .number ≡ l .number = ap (λ y. y .number) q in let a = in-falls (l .number) z ls (f .2) j in let b = h z (there j) m e in absurd (omega arith)
+
+    go : (x ≡ l) ⊎ In x ls → ((p : Option ℕ) → In x ls → value-back mark k ls p ≡ line-found (x .adds) (x .value)) → pick (ltb mark (l .number)) (value-back mark k ls (pick (eqb k (l .key)) (line-found (l .adds) (l .value)) o)) o ≡ line-found (x .adds) (x .value)
+    go (inl q) i = rw (above (inl q), eq-true k (l .key) (e ∙ ap (λ y. y .key) q)) (back-none mark k ls (line-found (l .adds) (l .value)) (older q) ∙ ap (λ y. line-found (y .adds) (y .value)) (sym q))
+    go (inr j) i = rw (above (inr j)) (i (pick (eqb k (l .key)) (line-found (l .adds) (l .value)) o) j)
 
 -- ---- an open batch's lines run on every key
 

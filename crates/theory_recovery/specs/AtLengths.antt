@@ -1,7 +1,7 @@
 -- Areas of right lengths, as a call reads them: n pages and m slots, zeros read as pages never used and empty slots.
 use Prim.Native.Nat.{ℕ, _+_, _-_, _*_, _≤_}
-use mathlib.Core.Path.{_≡_, sym, ap, ap₂, _∙_, subst, subst₂}
-use mathlib.Core.List.{List, [], _++_, map, append-nil}
+use mathlib.Core.Path.{_≡_, sym, ap, _∙_, subst₂}
+use mathlib.Core.List.{List, [], _++_, map}
 use native.Mathlib.Omega.{arith}
 use lib.ListN.{length, replicate, length-replicate}
 use Rattle.def_layout.specs.Numbers.{zeros}
@@ -25,7 +25,7 @@ use Rattle.theory_ranges.specs.Histories.{RangedHistory, ranged-now, behind-fit
 use Rattle.theory_ranges.specs.Growing.{after-longer, ranged-history-grow}
 use Rattle.law_areas.specs.Lengths.{Lengths}
 use Rattle.law_areas.specs.Pages.{filled, filled-length, filled-whole, pages-fit, pages-read, holds-zero-pages}
-use Rattle.law_areas.specs.Working.{HoldsWork, paired-lefts, all-links, work-read, lefts-read, holds-zero-work, zero-work-read, zero-lefts-read}
+use Rattle.law_areas.specs.Working.{HoldsWork, all-links, work-whole, holds-zero-work, zero-work-read, zero-lefts-read}
 use Rattle.law_areas.specs.Logs.{AllFit, log-fits, log-read, empty-log-read}
 use Rattle.theory_calls.specs.LiveAreas.{Holds}
 use Rattle.theory_recovery.specs.Invariant.{Sure, Live}
@@ -117,9 +117,7 @@ module _ (o : Origin) (n m : ℕ) (l : Lent) (z : Lengths l n m) where
       let e = length-after o n log in
       let w = relinked-length xs [] in
       let fit = all-links xs ls w (λ p h. history-linked o n (z .most-pages) log (s .history) p) (ranged-now o n log (s .ranged) .pages) in
-      let p = work-read n xs ls (s .pages) (z .work-pages) fit ∙ ap (map page) (filled-whole n xs e) in
-      let none : n - length xs ≡ 0 = omega arith in
-      let f = lefts-read n xs ls (s .pages) (z .work-pages) fit ∙ ap₂ (λ a k. a ++ replicate k 0) (paired-lefts xs ls w) none ∙ append-nil ls in
+      let (p, f) = work-whole n xs ls (s .pages) (z .work-pages) e w fit in
       let q = log-read m log (s .logged) (z .work-log) (history-fits o n log (s .ranged)) in
       record { is = λ i. record { pages = p i; lefts = f i; log = q i }; fits = log-fits m log (s .logged) (z .work-log) }
 

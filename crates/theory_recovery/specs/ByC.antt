@@ -7,7 +7,7 @@ use mathlib.Core.List.{List, [], _∷_, map}
 use native.Mathlib.Omega.{arith}
 use lib.ListN.{length}
 use lib.Dec.{eqb}
-use Rattle.def_base.specs.Tests.{Case, yes!, no!, case, eq-true, and-both}
+use Rattle.def_base.specs.Tests.{Case, yes!, no!, case, eq-true, true-eq, and-both}
 use Rattle.def_layout.specs.declared.Desk.{Desk}
 use Rattle.def_layout.specs.Numbers.{put32}
 use Rattle.def_layout.specs.Desks.{desk-bytes, read-desk}
@@ -17,12 +17,12 @@ use Rattle.def_model.specs.declared.Answer.{Answer}
 use Rattle.def_model.specs.Answers.{answer-numbers, passed, first-broken}
 use Rattle.def_model.specs.Areas.{Areas}
 use Rattle.def_model.specs.Calls.{begin-batch, begin-checks, kept-run}
-use Rattle.def_model.specs.OnBytes.{Call, start, restart, request, ask, begin, insert, delete, commit, abort, write-out, return-to, Lent, lengths-ok, read-areas, checks, request-checks, does, request-does, refused, outcome-by, outcome, call-by, call, lent-after}
-use Rattle.def_recovery.specs.Book.{book-request, Book, file, strike, open-sheet, write-line, book-call}
-use Rattle.def_recovery.specs.Events.{World, Event, result, passes, last-in, fed, fed-request, book-after, end-call, cut-call, grow, happen, happen-all}
+use Rattle.def_model.specs.OnBytes.{Call, Start, start, restart, request, ask, begin, insert, delete, commit, abort, write-out, return-to, Lent, lengths-ok, read-areas, checks, request-checks, does, request-does, refused, outcome-by, outcome, call-by, call, lent-after}
+use Rattle.def_recovery.specs.Book.{book-request, Book, new-book, file, strike, open-sheet, write-line, book-call}
+use Rattle.def_recovery.specs.Events.{World, Event, result, passes, last-in, fed, fed-request, book-after, end-call, cut-call, grow, happen, happen-all, Granted, Allowed, AllAllowed, started, first-slides}
 use Rattle.def_recovery.specs.Events as typed
 use Rattle.def_c.specs.FromC.{values-size, value-bytes, areas-left, answered, sizes-ok, returned-by, c-call, c-stores-by, c-stores}
-use Rattle.def_c.specs.EventsOfC.{CWorld, as-world, CRubble, CEvent, ended, cut, grown, returns, returns-0, read-values, after-return, cut-c-call, c-happen, c-happen-all}
+use Rattle.def_c.specs.EventsOfC.{CWorld, as-world, CRubble, CEvent, ended, cut, grown, returns, returns-0, read-values, after-return, cut-c-call, c-happen, c-happen-all, CGranted, CAllowed, CAllAllowed, c-started}
 use Rattle.law_bytes.specs.Words.{Bytes, be32-put}
 use Rattle.law_bytes.specs.DeskBytes.{Fits, desk-bytes-length, read-desk-back}
 use Rattle.law_areas.specs.Lengths.{lengths-said}
@@ -144,7 +144,7 @@ module _ (values : List ℕ) (room : length values ≡ values-size) where
   unfolding sizes-ok
   right-sizes w s = and-both (eq-true (length (w .desk)) desk-size (s .size)) (eq-true (length values) values-size room)
 
-  stands-by : (w : CWorld) (d : Desk) → Fits d → w .desk ≡ desk-bytes d → DeskStands w
+  pub stands-by : (w : CWorld) (d : Desk) → Fits d → w .desk ≡ desk-bytes d → DeskStands w
   stands-by w d f e = record { size = ap length e ∙ desk-bytes-length d; fits = subst Fits (sym (ap read-desk e ∙ read-desk-back d f)) f }
 
   pub event-alike : (e : Event) → HoldsDesk e → (w : CWorld) → DeskStands w → (as-world (c-happen (in-bytes values e) w) ≡ happen e (as-world w)) × DeskStands (c-happen (in-bytes values e) w)
@@ -167,3 +167,39 @@ module _ (values : List ℕ) (room : length values ≡ values-size) where
   run-alike (e ∷ es) h w s =
       let (a, t) = event-alike e (h .0) w s in
       run-alike es (h .1) (c-happen (in-bytes values e) w) t ∙ ap (happen-all es) a
+
+  -- What demand 3 grants is granted over C.
+  granted-alike : (c : Call) (w : CWorld) → DeskStands w → Granted c (as-world w) → CGranted c values w
+  granted-alike c w s g =
+      let p = passes-alike c values w (right-sizes w s) in
+      record { numbers = g .numbers; no-format = λ f. p ∙ g .no-format f; restart-first = λ t q. g .restart-first t (sym p ∙ q) }
+
+  one-allowed : (e : Event) (w : CWorld) → DeskStands w → Allowed e (as-world w) → CAllowed (in-bytes values e) w
+  unfolding Allowed CAllowed in-bytes
+  one-allowed (typed.ended c) w s a = granted-alike c w s a
+  one-allowed (typed.cut c budget left) w s a = granted-alike c w s a
+  one-allowed (typed.grown a b c d) w s x = tt
+
+  -- WHAT DEMAND 3 ALLOWS IS ALLOWED OVER C.
+  pub allowed-alike : (es : List Event) → AllHold es → (w : CWorld) → DeskStands w → AllAllowed es (as-world w) → CAllAllowed (map (in-bytes values) es) w
+  unfolding AllHold AllAllowed CAllAllowed
+  allowed-alike [] h w s a = tt
+  allowed-alike (e ∷ es) h w s a =
+      let (x, t) = event-alike e (h .0) w s in
+      (one-allowed e w s (a .0), allowed-alike es (h .1) (c-happen (in-bytes values e) w) t (subst (AllAllowed es) (sym x) (a .1)))
+
+  -- The start over C.
+  pub started-alike : (s : Start) (l : Lent) (desk : List ℕ) → length desk ≡ desk-size → Fits (read-desk desk) → (as-world (c-started s l desk values) ≡ started s l (read-desk desk)) × DeskStands (c-started s l desk values)
+  unfolding c-started started c-call returned-by sizes-ok answered areas-left
+  started-alike s l desk size fits =
+      let r = call (start s) l (read-desk desk) in
+      let is : c-call (start s) l desk values ≡ answered r l = ap (λ b. returned-by b (start s) l desk values) (and-both (eq-true (length desk) desk-size size) (eq-true (length values) values-size room)) in (
+        ap (λ q. record { lent = q .areas; desk = read-desk (q .desk); book = new-book (first-slides s); since-cut = false }) is
+            ∙ ap (λ d. record { lent = lent-after (length (r .stores)) r l; desk = d; book = new-book (first-slides s); since-cut = false }) (desk-read-back (start s) l (read-desk desk) fits),
+        stands-by _ (r .desk) (call-desk-fits (start s) l (read-desk desk) fits) (ap (λ q. q .desk) is),
+      )
+
+  pub started-0 : (s : Start) (l : Lent) (desk : List ℕ) → length desk ≡ desk-size → passed (call (start s) l (read-desk desk) .answer) ≡ true → c-call (start s) l desk values .reason ≡ 0
+  unfolding c-call returned-by sizes-ok answered
+  started-0 s l desk size p =
+      ap (λ b. returned-by b (start s) l desk values .reason) (and-both (eq-true (length desk) desk-size size) (eq-true (length values) values-size room)) ∙ true-eq _ 0 (zero-if-passed (call (start s) l (read-desk desk) .answer) ∙ p)

@@ -10,3 +10,4 @@ pub mod DeskNumbers
 pub mod DesksFit
 pub mod ByC
 pub mod TheoremOfC
+pub mod RefusedOverC

@@ -18,7 +18,7 @@ use Rattle.def_model.specs.Answers.{passed}
 use Rattle.def_model.specs.Restart.{stable-log, restart-checks, restart-areas}
 use Rattle.def_model.specs.OnBytes.{Call, Start, start, restart, request, commit, Lent, lengths-ok, read-areas, work-bytes, log-bytes, checks, does, refused, refused-work, refused-desk, outcome-by, outcome, call-by, call, store-all-bytes, lent-after}
 use Rattle.def_recovery.specs.Book.{new-book, book-cut, book-cut-by, commits}
-use Rattle.def_recovery.specs.Events.{World, Granted, AllAllowed, cut-call, grow, started, first-slides, book-after, is-format, is-restart, of-32-bits}
+use Rattle.def_recovery.specs.Events.{World, Granted, AllAllowed, cut-call, grow, started, first-slides, book-after, of-32-bits}
 use Rattle.def_recovery.specs.Demand3.{is-commit-of, stored}
 use Rattle.def_c.specs.FromC.{values-size, areas-left, answered, sizes-ok, refused-desk-bytes, returned-by, c-call, c-stores-by, c-stores}
 use Rattle.def_c.specs.EventsOfC.{CWorld, as-world, CRubble, CEvent, ended, mislent, cut, grown, returns-0, after-return, cut-c-call, c-happen, c-happen-all, CGranted, CAllowed, CAllAllowed, c-started}
@@ -28,12 +28,13 @@ use Rattle.theory_recovery.specs.Passed.{Next}
 use Rattle.theory_recovery.specs.Fixing.{any-first}
 use Rattle.theory_recovery.specs.Steps.{take-none, no-cut, still, ended-reports, cut-keeps, grown-next}
 use Rattle.theory_recovery.specs.Theorem.{begun, recovers, logged}
+use Rattle.theory_refusals.specs.Grants.{restart-granted}
 use Rattle.theory_refusals.specs.Numbers.{zero-if-passed}
 use Rattle.theory_recovery.specs.ByC.{with-desk, passes-alike, desk-returned, ended-alike, cut-alike}
 
 -- ---- the invariant does not look at the desk
 
-abbrev inv-desk : {w : World} (d : Desk) → Inv w → Inv (with-desk d w)
+abbrev pub inv-desk : {w : World} (d : Desk) → Inv w → Inv (with-desk d w)
 inv-desk d i = record { origin = i .origin; n = i .n; log = i .log; sure = i .sure; slides = i .slides; mode = i .mode }
 
 abbrev next-desk : {w : World} (log : List Rec) (d : Desk) → Next log w → Next log (with-desk d w)
@@ -72,10 +73,6 @@ granted : (c : Call) (values : List ℕ) (w : CWorld) → sizes-ok (w .desk) val
 granted c values w k g =
     let p = passes-alike c values w k in
     record { numbers = g .numbers; no-format = λ f. sym p ∙ g .no-format f; restart-first = λ s q. g .restart-first s (p ∙ q) }
-
-restart-granted : (w : World) → Granted restart w
-unfolding of-32-bits is-format is-restart
-restart-granted w = record { numbers = refl; no-format = λ f. clash (sym f); restart-first = λ s q. refl }
 
 -- A commit that returned 0 is in the log.
 record CReports (c : Call) (values : List ℕ) (w : CWorld) (i : Inv (as-world w)) (w′ : World) : Type 0 where

@@ -5,4 +5,5 @@ pub mod Left
 pub mod Lossless
 pub mod OnBytes
 pub mod ZeroKey
+pub mod Grants
 pub mod StoredLink

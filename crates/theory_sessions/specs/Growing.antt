@@ -71,6 +71,9 @@ log-grown m y b size =
     ∙ ap (map read-slot) (parts-append m y slot-size b c size) ∙ map-append read-slot (parts m slot-size b) (parts y slot-size c)
     ∙ (λ t. map read-slot (parts (i t) slot-size b) ++ map read-slot (parts (j t) slot-size c)) ∙ ap (read-log b ++_) (empty-log-read y)
 
+pub longer : (b : List ℕ) (q : ℕ) → length (b ++ zeros q) ≡ length b + q
+longer b q = length-append b (zeros q) ∙ ap (λ k. length b + k) (length-replicate {A = ℕ} q 0)
+
 -- x pages and y slots more, in working and stable areas alike.
 abbrev side-grown : ℕ → ℕ → Side → Side
 side-grown x y s = record { pages = s .pages ++ replicate x (page zero-page); lefts = s .lefts ++ replicate x 0; log = s .log ++ replicate y empty }
@@ -85,9 +88,6 @@ abbrev pub world-grown : ℕ → ℕ → World → World
 world-grown x y w = grow (page-size * x) (page-size * x) (slot-size * y) (slot-size * y) w
 
 module _ (n m x y : ℕ) (w : World) (a : Areas) (d : Desk) (t : Tied n m w a d) (few : n + x ≤ 896) (low : m + y ≤ 16384) where
-  longer : (b : List ℕ) (q : ℕ) → length (b ++ zeros q) ≡ length b + q
-  longer b q = length-append b (zeros q) ∙ ap (λ k. length b + k) (length-replicate {A = ℕ} q 0)
-
   grown-read : read-areas (world-grown x y w .lent) ≡ areas-grown x y (read-areas (w .lent))
   unfolding grow read-areas
   grown-read =

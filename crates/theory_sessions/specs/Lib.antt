@@ -4,8 +4,15 @@ pub mod Leaving
 pub mod Tie
 pub mod Starting
 pub mod Playing
+pub mod Showing
 pub mod Growing
+pub mod InARow
+pub mod Uneven
 pub mod Claim
+pub mod Finding
 pub mod Witness
+pub mod LoadedWitness
+pub mod WitnessOfC
+pub mod MistakesOfC
 pub mod Needed
 pub mod OutOfOrder

@@ -67,6 +67,21 @@ slide-lost : (reason-of (stored-only (take 2 (stores-of (commit 1) one-slide)) o
 unfolding computed stores-of stored-only reason-of slides-of one-slide to-one-slide
 slide-lost = (refl, refl)
 
+-- "A case whose commit was reported": of two cases one is committed, and the commit of the other is reported with none of its stores there. One case's commit is not another's.
+unfoldable pub to-two-open : List Step
+to-two-open = ask begin ∷ ask (insert 1 5 6) ∷ ask begin ∷ ask (insert 3 7 7) ∷ ask (commit 1) ∷ []
+
+unfoldable pub two-open : Machine
+two-open = play to-two-open (new 32 160)
+
+pub other-reported : passed (outcome (commit 3) (two-open .areas) (two-open .desk) .answer) ≡ true
+unfolding computed passed two-open to-two-open
+other-reported = refl
+
+pub one-stored : (any (is-commit-of 1) (stable-log (two-open .areas)) ≡ true) × (any (is-commit-of 3) (stable-log (two-open .areas)) ≡ false)
+unfolding computed is-commit-of two-open to-two-open
+one-stored = (refl, refl)
+
 -- "the first call after a cut to pass its checks is a restart": batch 1 inserted 5, batch 4 deleted it, both committed.
 two-cases : Machine
 two-cases = play (ask (commit 1) ∷ ask begin ∷ ask (delete 4 5) ∷ ask (commit 4) ∷ []) one-slide

@@ -7,7 +7,7 @@ use mathlib.Core.Bool.{true, false}
 use mathlib.Core.List.{List, [], _∷_, _++_}
 use native.Mathlib.Omega.{arith}
 use lib.ListN.{length, take, drop}
-use Rattle.def_base.specs.Tests.{every, any}
+use Rattle.def_base.specs.Tests.{any}
 use Rattle.def_layout.specs.declared.Desk.{Desk}
 use Rattle.def_layout.specs.Desks.{empty-desk}
 use Rattle.def_model.specs.Areas.{Store, store-page, store-slot, store-all}
@@ -28,8 +28,8 @@ use Rattle.theory_sessions.specs.StoresRead.{StoreFits, stores-read, fit
 use Rattle.theory_sessions.specs.Leaving.{pages-count, log-count, call-reads}
 use Rattle.theory_sessions.specs.Tie.{Tied, calm-granted, restart-same}
 use Rattle.theory_sessions.specs.Starting.{formatted-tied}
-use Rattle.theory_sessions.specs.Playing.{askable, step-askable, whole, plays}
-use Rattle.theory_sessions.specs.Needed.{to-one-slide, one-slide, stores-of, stored-only, reason-of, page-first, record-skipped, commit-reported, commit-unstored}
+use Rattle.theory_sessions.specs.Playing.{askable, step-askable, all-askable, whole, plays}
+use Rattle.theory_sessions.specs.Needed.{to-one-slide, one-slide, stores-of, stored-only, reason-of, page-first, record-skipped, commit-reported, commit-unstored, to-two-open, two-open, other-reported, one-stored}
 
 -- The working areas are not stored to.
 stores-work : (ts : List Store) (l : Lent) → (store-all-bytes ts l .work-pages ≡ l .work-pages) × (store-all-bytes ts l .work-log ≡ l .work-log)
@@ -93,8 +93,8 @@ module _ (n m : ℕ) (w : World) (x : Machine) (t : Tied n m w (x .areas) (x .de
 
 -- ---- stores out of order
 
-only-asks : every step-askable to-one-slide ≡ true
-unfolding every step-askable askable of-32-bits request-32 is-format to-one-slide
+only-asks : all-askable to-one-slide (new 16 80) ≡ true
+unfolding all-askable step-askable askable request-32 to-one-slide
 only-asks = refl
 
 -- Nothing is cut.
@@ -152,6 +152,31 @@ module _ (l : Lent) (d : Desk) (z : Lengths l 16 80) where
     ap (λ r. passed (r .answer)) (result-by (commit 1) begun true (lengths-enough (begun .lent) 16 80 (tied .lengths))) ∙ (λ i. passed (outcome (commit 1) (tied .areas i) (tied .desk i) .answer)) ∙ commit-reported,
     stored-is 16 80 begun one-slide tied (take 2 (owed (commit 1))) (fits-first 16 80 2 (owed (commit 1)) (owed-fits (commit 1) refl refl)) 1
         ∙ ap (λ ts. any (is-commit-of 1) (stable-log (stored-only (take 2 ts) one-slide))) (owed-is (commit 1)) ∙ commit-unstored,
+  )
+
+-- A COMMIT THAT WAS REPORTED, ANOTHER CASE'S STORED: none of the three stores of case 3's commit is there, while case 1's is.
+two-asks : all-askable to-two-open (new 32 160) ≡ true
+unfolding all-askable step-askable askable request-32 to-two-open
+two-asks = refl
+
+two-uncut : AllLeave 32 160 to-two-open no-rubble
+unfolding AllLeave to-two-open
+two-uncut = tt
+
+module _ (l : Lent) (d : Desk) (z : Lengths l 32 160) where
+  pub both-open : World
+  both-open = happen-all (events no-rubble to-two-open) (formatted l d)
+
+  two-tied : Tied 32 160 both-open (two-open .areas) (two-open .desk)
+  unfolding both-open two-open
+  two-tied = plays 32 160 no-rubble to-two-open (formatted l d) (new 32 160) two-asks two-uncut (whole (formatted-tied 32 160 l d z)) .tied
+
+  pub another-stored : (passes (commit 3) both-open ≡ true) × (commit-stored 1 both-open ≡ true) × (commit-stored 3 both-open ≡ false)
+  unfolding call-by
+  another-stored = (
+    ap (λ r. passed (r .answer)) (result-by (commit 3) both-open true (lengths-enough (both-open .lent) 32 160 (two-tied .lengths))) ∙ (λ i. passed (outcome (commit 3) (two-tied .areas i) (two-tied .desk i) .answer)) ∙ other-reported,
+    ap (λ a. any (is-commit-of 1) (stable-log a)) (two-tied .areas) ∙ one-stored .0,
+    ap (λ a. any (is-commit-of 3) (stable-log a)) (two-tied .areas) ∙ one-stored .1,
   )
 
 -- An image that is called damaged is none that demand 3 speaks of.

@@ -1,39 +1,50 @@
--- A session on bytes goes as it goes on typed areas.
+-- A session on bytes is allowed, and goes as it goes on typed areas.
 use Prim.Native.Nat.{ℕ}
 use mathlib.Core.Path.{_≡_, refl, sym, ap, _∙_, subst}
 use mathlib.Core.Logic.{_⊎_, inl, inr}
 use mathlib.Core.Bool.{Bool, true, false, not, _&&_}
-use mathlib.Core.List.{List, [], _∷_, _++_, append-assoc, append-nil}
+use mathlib.Core.List.{List, [], _∷_, _++_}
 use lib.ListN.{length, length-replicate}
-use Rattle.def_base.specs.Tests.{every, clash, Case, yes!, no!, case, and-true}
+use Rattle.def_base.specs.Tests.{clash, Case, yes!, no!, case, and-true}
 use Rattle.def_layout.specs.declared.Desk.{Desk}
 use Rattle.def_layout.specs.Desks.{empty-desk}
 use Rattle.def_layout.specs.PageBytes.{page}
 use Rattle.def_layout.specs.Pages.{zero-page}
 use Rattle.def_layout.specs.RecordBytes.{empty}
 use Rattle.def_model.specs.Areas.{Areas, zero-side, store-some}
-use Rattle.def_model.specs.Answers.{answer-numbers}
-use Rattle.def_model.specs.OnBytes.{Call, start, restart, request, outcome, read-areas}
+use Rattle.def_model.specs.Answers.{answer-numbers, passed}
+use Rattle.def_model.specs.OnBytes.{Call, start, restart, request, outcome, call-by, read-areas}
 use Rattle.def_recovery.specs.Events
-use Rattle.def_recovery.specs.Events.{World, Rubble, Granted, Allowed, AllAllowed, happen, happen-all, is-format, is-restart, of-32-bits, end-call, cut-call}
-use Rattle.def_sessions.specs.Play.{Step, ask, cut, forge-page, forge-slot, forge-low-bits, Machine, numbers, ended, cut-off, play-step, play}
-use Rattle.def_sessions.specs.OnBytes.{restart-next, Leaves, AllLeave, events, answered, all-answered}
-use Rattle.law_areas.specs.Lengths.{Lengths}
+use Rattle.def_recovery.specs.Events.{World, Rubble, Granted, Allowed, AllAllowed, happen, happen-all, is-format, is-restart, start-32, request-32, of-32-bits, end-call, cut-call}
+use Rattle.def_sessions.specs.Play.{Step, ask, cut, forge-page, forge-slot, forge-work-page, forge-work-slot, forge-desk, forge-low-bits, Machine, numbers, ended, cut-off, play-step, play}
+use Rattle.def_sessions.specs.OnBytes.{restart-next, Leaves, AllLeave, events, answered}
+use Rattle.law_areas.specs.Lengths.{Lengths, lengths-enough}
+use Rattle.theory_refusals.specs.Grants.{restart-granted, granted-if}
 use Rattle.theory_recovery.specs.Invariant.{Inv}
 use Rattle.theory_recovery.specs.Going.{outcome-in}
+use Rattle.theory_recovery.specs.Steps.{result-by}
 use Rattle.theory_sessions.specs.Leaving.{pages-count, log-count}
-use Rattle.theory_sessions.specs.Tie.{Calm, Tied, Cut, calm-granted, restart-granted, restart-same, end-answer, ended-tied, cut-off as cut-shown, cut-zeroed}
+use Rattle.theory_sessions.specs.Tie.{Calm, Tied, Cut, calm-granted, restart-same, end-answer, ended-tied, cut-off as cut-shown, cut-zeroed}
 
--- A call that a session may ask for: its numbers have 32 bits, and it is no further formatting.
-unfoldable pub askable : Call → Bool
-askable c = of-32-bits c && not (is-format c)
+-- A call that a session may ask for where it stands: its numbers have 32 bits, and it is no formatting or loading but a refused one.
+unfoldable pub askable : Call → Areas → Desk → Bool
+askable (start s) a d = start-32 s && not (passed (outcome (start s) a d .answer))
+askable restart a d = true
+askable (request q) a d = request-32 q
 
-unfoldable pub step-askable : Step → Bool
-step-askable (ask c) = askable c
-step-askable (cut j c) = askable c
-step-askable (forge-page p x) = false
-step-askable (forge-slot n x) = false
-step-askable (forge-low-bits p w) = false
+unfoldable pub step-askable : Step → Machine → Bool
+step-askable (ask c) x = askable c (x .areas) (x .desk)
+step-askable (cut j c) x = askable c (x .areas) (x .desk)
+step-askable (forge-page p y) x = false
+step-askable (forge-slot n y) x = false
+step-askable (forge-work-page p y) x = false
+step-askable (forge-work-slot n y) x = false
+step-askable (forge-desk y) x = false
+step-askable (forge-low-bits p y) x = false
+
+unfoldable pub all-askable : List Step → Machine → Bool
+all-askable [] x = true
+all-askable (s ∷ ss) x = step-askable s x && all-askable ss (play-step s x)
 
 -- Before these steps: all is shown; or there was a cut, and the next step is a restart.
 pub data Ready (n m : ℕ) (restarts : Bool) (w : World) (a : Areas) (d : Desk) : Type 0 where
@@ -57,24 +68,31 @@ only-restart (start s) e = clash (sym e)
 only-restart restart e = refl
 only-restart (request q) e = clash (sym e)
 
-pub finds : (n m : ℕ) (c : Call) (w : World) (a : Areas) (d : Desk) → askable c ≡ true → Ready n m (is-restart c) w a d → Finds n m c w a d
-unfolding askable
+not-true : (b : Bool) → not b ≡ true → b ≡ false
+not-true false e = refl
+not-true true e = clash (sym e)
+
+-- It is granted.
+asked-granted : (n m : ℕ) (c : Call) (w : World) (a : Areas) (d : Desk) → askable c a d ≡ true → Tied n m w a d → Granted c w
+unfolding askable of-32-bits is-format is-restart call-by
+asked-granted n m (start s) w a d k t =
+    let (b, f) = and-true (start-32 s) (not (passed (outcome (start s) a d .answer))) k in
+    granted-if (start s) w b (inl (ap (λ r. passed (r .answer)) (result-by (start s) w true (lengths-enough (w .lent) n m (t .lengths))) ∙ (λ i. passed (outcome (start s) (t .areas i) (t .desk i) .answer)) ∙ not-true _ f))
+asked-granted n m restart w a d k t = restart-granted w
+asked-granted n m (request q) w a d k t = calm-granted n m w (t .lengths) (t .calm) (request q) k refl
+
+pub finds : (n m : ℕ) (c : Call) (w : World) (a : Areas) (d : Desk) → askable c a d ≡ true → Ready n m (is-restart c) w a d → Finds n m c w a d
 finds n m c w a d k (whole t) =
-    let (b, f) = and-true (of-32-bits c) (not (is-format c)) k in
     record {
       inv = t .inv;
       lengths = t .lengths;
-      granted = calm-granted n m w (t .lengths) (t .calm) c b (not-true (is-format c) f);
+      granted = asked-granted n m c w a d k t;
       is = λ i. outcome c (t .areas i) (t .desk i);
       stable = ap (λ x. x .stable) (t .areas);
       pages = sym (ap (λ x. length (x .work .pages)) (t .areas)) ∙ pages-count n m (w .lent) (t .lengths);
       log = sym (ap (λ x. length (x .work .log)) (t .areas)) ∙ log-count n m (w .lent) (t .lengths);
       calm = inl (t .calm);
     }
-  where
-    not-true : (b : Bool) → not b ≡ true → b ≡ false
-    not-true false e = refl
-    not-true true e = clash (sym e)
 finds n m c w a d k (halved t e) =
     let q = only-restart c e in
     record {
@@ -91,15 +109,15 @@ finds n m c w a d k (halved t e) =
 -- ---- one step
 
 module _ (n m : ℕ) (c : Call) (w : World) (x : Machine) (f : Finds n m c w (x .areas) (x .desk)) where
-  asked : Tied n m (end-call c w) (play-step (ask c) x .areas) (play-step (ask c) x .desk)
+  pub asked : Tied n m (end-call c w) (play-step (ask c) x .areas) (play-step (ask c) x .desk)
   unfolding play-step ended
   asked = ended-tied n m w (f .inv) (f .lengths) c (f .granted) (outcome c (x .areas) (x .desk)) (f .is) (x .areas .stable) (f .stable) (f .calm)
 
-  asked-answer : x .answers ++ answered (Events.ended c) w ≡ play-step (ask c) x .answers
+  pub asked-answer : x .answers ++ answered (Events.ended c) w ≡ play-step (ask c) x .answers
   unfolding play-step ended answered
   asked-answer = ap (λ a. x .answers ++ numbers (answer-numbers a) ∷ []) (end-answer n m w (f .inv) (f .lengths) c (f .granted) ∙ ap (λ o. o .answer) (f .is))
 
-  was-cut : (j : ℕ) (left : Rubble) (restarts : Bool) → Leaves n m restarts left → Ready n m restarts (cut-call c j left w) (play-step (cut j c) x .areas) (play-step (cut j c) x .desk)
+  pub was-cut : (j : ℕ) (left : Rubble) (restarts : Bool) → Leaves n m restarts left → Ready n m restarts (cut-call c j left w) (play-step (cut j c) x .areas) (play-step (cut j c) x .desk)
   unfolding play-step cut-off
   was-cut j left restarts h = go (case restarts)
     where
@@ -121,27 +139,25 @@ module _ (n m : ℕ) (c : Call) (w : World) (x : Machine) (f : Finds n m c w (x 
 pub record Played (n m : ℕ) (left : ℕ → Rubble) (ss : List Step) (w : World) (x : Machine) : Type 0 where
   pub allowed : AllAllowed (events left ss) w
   pub tied : Tied n m (happen-all (events left ss) w) (play ss x .areas) (play ss x .desk)
-  pub answers : x .answers ++ all-answered (events left ss) w ≡ play ss x .answers
 
 module _ (n m : ℕ) (left : ℕ → Rubble) where
-  pub plays : (ss : List Step) (w : World) (x : Machine) → every step-askable ss ≡ true → AllLeave n m ss left → Ready n m (restart-next ss) w (x .areas) (x .desk) → Played n m left ss w x
-  unfolding every step-askable AllLeave restart-next events all-answered answered AllAllowed Allowed happen happen-all play play-step cut-off
-  plays [] w x k h (whole t) = record { allowed = tt; tied = t; answers = append-nil (x .answers) }
+  pub plays : (ss : List Step) (w : World) (x : Machine) → all-askable ss x ≡ true → AllLeave n m ss left → Ready n m (restart-next ss) w (x .areas) (x .desk) → Played n m left ss w x
+  unfolding all-askable step-askable AllLeave restart-next events AllAllowed Allowed happen happen-all play play-step cut-off
+  plays [] w x k h (whole t) = record { allowed = tt; tied = t }
   plays [] w x k h (halved t e) = clash (sym e)
   plays (ask c ∷ ss) w x k h r =
-      let (a, b) = and-true (askable c) (every step-askable ss) k in
+      let (a, b) = and-true (askable c (x .areas) (x .desk)) (all-askable ss (play-step (ask c) x)) k in
       let f = finds n m c w (x .areas) (x .desk) a r in
       let t = plays ss (end-call c w) (play-step (ask c) x) b h (whole (asked n m c w x f)) in
-      record {
-        allowed = (f .granted, t .allowed);
-        tied = t .tied;
-        answers = sym (append-assoc (x .answers) (answered (Events.ended c) w) _) ∙ ap (_++ all-answered (events left ss) (end-call c w)) (asked-answer n m c w x f) ∙ t .answers;
-      }
+      record { allowed = (f .granted, t .allowed); tied = t .tied }
   plays (cut j c ∷ ss) w x k h r =
-      let (a, b) = and-true (askable c) (every step-askable ss) k in
+      let (a, b) = and-true (askable c (x .areas) (x .desk)) (all-askable ss (play-step (cut j c) x)) k in
       let f = finds n m c w (x .areas) (x .desk) a r in
       let t = plays ss (cut-call c j (left (length ss)) w) (play-step (cut j c) x) b (h .1) (was-cut n m c w x f j (left (length ss)) (restart-next ss) (h .0)) in
-      record { allowed = (f .granted, t .allowed); tied = t .tied; answers = t .answers }
+      record { allowed = (f .granted, t .allowed); tied = t .tied }
   plays (forge-page p y ∷ ss) w x k h r = clash (sym k)
   plays (forge-slot q y ∷ ss) w x k h r = clash (sym k)
   plays (forge-low-bits q y ∷ ss) w x k h r = clash (sym k)
+  plays (forge-work-page q y ∷ ss) w x k h r = clash (sym k)
+  plays (forge-work-slot q y ∷ ss) w x k h r = clash (sym k)
+  plays (forge-desk y ∷ ss) w x k h r = clash (sym k)

@@ -72,10 +72,6 @@ calm-granted n m w z calm c k f = record { numbers = k; no-format = λ e. clash 
         let q : passed (outcome-in c w .answer) ≡ true = sym (ap (λ x. passed (x .answer)) (result-by c w true (lengths-enough (w .lent) n m z))) ∙ p in
         zeros-unsound n m (omega (arith, z .least-pages)) (read-areas (w .lent)) (w .desk) r (requests-sound c w f e q)
 
-pub restart-granted : (w : World) → Granted restart w
-unfolding of-32-bits is-format is-restart
-restart-granted w = record { numbers = refl; no-format = λ e. clash (sym e); restart-first = λ s p. refl }
-
 -- ---- restart
 
 -- It looks at the stable areas and at the lengths of the working ones.

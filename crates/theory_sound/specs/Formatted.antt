@@ -2,15 +2,14 @@
 use Prim.Native.Nat.{ℕ, suc, _+_, _-_, _≤_}
 use mathlib.Core.Path.{_≡_, refl, sym, ap, _∙_, subst}
 use mathlib.Core.Bool.{true}
-use mathlib.Core.List.{List, [], _∷_, _++_, append-assoc, map}
+use mathlib.Core.List.{List, [], _∷_, _++_, append-nil}
 use native.Mathlib.Omega.{arith}
-use lib.ListN.{length, set, replicate, length-append, length-replicate}
+use lib.ListN.{length, replicate, length-replicate}
 use Rattle.def_layout.specs.declared.Desk.{Desk}
 use Rattle.def_layout.specs.Desks.{eight-rows}
 use Rattle.def_layout.specs.Numbers.{tab}
 use Rattle.def_layout.specs.Pages.{Page, map-bits}
-use Rattle.def_layout.specs.PageBytes.{page}
-use Rattle.def_layout.specs.RecordBytes.{Slot, empty}
+use Rattle.def_layout.specs.RecordBytes.{empty}
 use Rattle.def_model.specs.Areas.{Side, Areas, Store, store-page, store, store-all, slot-stores}
 use Rattle.def_model.specs.Log.{slots-from, log-area}
 use Rattle.def_model.specs.Batches.{open-batches, told, desk-of, pending-count}
@@ -31,6 +30,7 @@ use Rattle.theory_history.specs.Growing.{start-history}
 use Rattle.law_areas.specs.Typed.{log-back}
 use Rattle.def_model.specs.Redo.{replay}
 use Rattle.theory_load.specs.Checked.{load-starts}
+use Rattle.theory_sound.specs.SlotStores.{slots-written}
 use Rattle.theory_sound.specs.StoredPart.{Stores, stores-ok, slots-same}
 use Rattle.theory_sound.specs.ToSound.{sound-again}
 use Rattle.theory_sound.specs.SoundAfter.{Reserved, used-within, reserves-hold}
@@ -49,29 +49,12 @@ unfolding store-all
 stores-then [] b s = refl
 stores-then (t ∷ a) b s = stores-then a b (store t s)
 
-set-seam : (pre : List Slot) (x y : Slot) (post : List Slot) → set (pre ++ x ∷ post) (length pre) y ≡ pre ++ y ∷ post
-set-seam [] x y post = refl
-set-seam (p ∷ pre) x y post = ap (p ∷_) (set-seam pre x y post)
-
--- Every slot is written.
-slots-written : (xs pre old : List Slot) (s : Side) → s .log ≡ pre ++ old → length old ≡ length xs → store-all (slot-stores (suc (length pre)) xs) s .log ≡ pre ++ xs
-unfolding store-all slot-stores store
-slots-written [] pre [] s e l = e
-slots-written [] pre (o ∷ old) s e l = absurd (omega arith)
-slots-written (x ∷ xs) pre [] s e l = absurd (omega arith)
-slots-written (x ∷ xs) pre (o ∷ old) s e l =
-    let k : suc (length pre) - 1 ≡ length pre = omega arith in
-    let q : set (s .log) (suc (length pre) - 1) x ≡ (pre ++ x ∷ []) ++ old = (λ i. set (e i) (k i) x) ∙ set-seam pre o x old ∙ sym (append-assoc pre (x ∷ []) old) in
-    let n : length (pre ++ x ∷ []) ≡ suc (length pre) = length-append pre (x ∷ []) ∙ omega arith in
-    let t : Side = record { pages = s .pages; lefts = s .lefts; log = set (s .log) (suc (length pre) - 1) x } in
-    subst (λ z. store-all (slot-stores (suc z) xs) t .log ≡ (pre ++ x ∷ []) ++ xs) n (slots-written xs (pre ++ x ∷ []) old t q (omega arith)) ∙ append-assoc pre (x ∷ []) xs
-
 pub formatted-log : (pages : List Page) (m : ℕ) (s : Side) → length (s .log) ≡ m → store-all (format-stores pages m) s .log ≡ replicate m empty
 unfolding format-stores
 formatted-log pages m s e =
     let l = length-replicate m empty in
     ap (λ z. z .log) (stores-then (page-stores 0 pages) (slot-stores 1 (replicate m empty)) s)
-    ∙ slots-written (replicate m empty) [] (s .log) (store-all (page-stores 0 pages) s) (pages-leave 0 pages s) (omega arith)
+    ∙ slots-written (replicate m empty) [] (s .log) [] (store-all (page-stores 0 pages) s) (pages-leave 0 pages s ∙ sym (append-nil (s .log))) (omega arith) ∙ append-nil (replicate m empty)
 
 -- AREAS THAT HOLD AN ORIGIN, AND NO RECORDS, ARE SOUND.
 module _ (o : Origin) (n m : ℕ) (least : o .least ≤ n) (few : n ≤ map-bits) (stable : Side) (blank : stable .log ≡ replicate m empty) where

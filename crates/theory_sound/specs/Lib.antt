@@ -1,8 +1,7 @@
 pub mod FromSound
 pub mod ToSound
+pub mod SlotStores
 pub mod StoredPart
-pub mod LineRoom
-pub mod AbortRoom
 pub mod SettleRoom
 pub mod SettleFull
 pub mod SoundAfter
@@ -11,8 +10,11 @@ pub mod SoundKept
 pub mod Kept
 pub mod SortedList
 pub mod Returning
+pub mod MarkAnswer
 pub mod Formatted
 pub mod AcceptedPages
 pub mod Restarted
 pub mod RestartDesk
 pub mod OfBytes
+pub mod RestartCut
+pub mod Settled

@@ -1,30 +1,28 @@
 -- ANY RESTART THAT IS NOT REFUSED LEAVES A SOUND REGISTER, of whatever image: stored by calls, damaged or forged.
-use Prim.Native.Nat.{ℕ, suc, _+_, _-_, _≤_, _<_}
+use Prim.Native.Nat.{_+_, _-_, _≤_, _<_}
 use mathlib.Core.Path.{_≡_, refl, sym, _∙_, subst}
 use mathlib.Core.Logic.{_⊎_, inl, inr}
 use mathlib.Core.Bool.{true, false, _&&_}
 use mathlib.Core.Option.{none}
-use mathlib.Core.List.{List, [], _∷_, _++_}
+use mathlib.Core.List.{List, [], _++_}
 use native.Mathlib.Omega.{arith}
-use lib.ListN.{length, replicate, length-map}
+use lib.ListN.{length, length-map}
 use lib.Seq.{take-all}
 use lib.Dec.{eqb}
-use Rattle.def_base.specs.Tests.{clash, and-true, and-both, true-eq, eq-true, every}
+use Rattle.def_base.specs.Tests.{clash, and-true, eq-true}
 use Rattle.def_layout.specs.declared.Entry.{Entry}
 use Rattle.def_layout.specs.declared.Desk.{Desk}
 use Rattle.def_layout.specs.Pages.{map-bits}
 use Rattle.def_layout.specs.Records.{Rec}
-use Rattle.def_layout.specs.Rows.{row, names-pages}
-use Rattle.def_layout.specs.RecordBytes.{Slot, empty, full, other}
 use Rattle.def_model.specs.declared.Refusal.the-variants.{Layout, Log, Redo, Rules, SlotsShort, PagesShort}
 use Rattle.def_model.specs.Areas.{Side, Areas, page-in, store-all, log-stores}
 use Rattle.def_model.specs.Answers.{check, first-broken, passed}
-use Rattle.def_model.specs.Log.{is-empty, records-of, slots-from, slots-ok, log-area}
+use Rattle.def_model.specs.Log.{slots-ok, log-area}
 use Rattle.def_model.specs.Batches.{open-batches, chain-ok, desk-of, pending-count}
 use Rattle.def_model.specs.Pending.{pending-ok}
 use Rattle.def_model.specs.TreeRules.{tree-ok, leaf-records}
 use Rattle.def_model.specs.Redo.{redo-fits}
-use Rattle.def_model.specs.Sound.{sound, layouts-ok, log-ok, numbers-ok, same-slot, same-slots}
+use Rattle.def_model.specs.Sound.{sound, layouts-ok, log-ok, numbers-ok, same-slots}
 use Rattle.def_model.specs.Calls.{run-side}
 use Rattle.def_model.specs.Restart.{stable-log, stable-pages, stable-slots, redone, redone-pages, restarted, restart-checks, restart-areas}
 use Rattle.theory_refusals.specs.Order.{passed-does}
@@ -41,7 +39,8 @@ use Rattle.theory_history.specs.Settling.{settle-trail}
 use Rattle.law_areas.specs.Typed.{log-back}
 use Rattle.theory_calls.specs.Checks.{none-broken, kept-check}
 use Rattle.theory_sound.specs.FromSound.{side-laid, slots-rows, numbers-low, leaves-rise}
-use Rattle.theory_sound.specs.StoredPart.{Stores, stores-ok, stores-all, stores-more, slot-same}
+use Rattle.theory_sound.specs.SlotStores.{slots-exact}
+use Rattle.theory_sound.specs.StoredPart.{Stores, stores-ok, stores-all, stores-more, slots-same}
 use Rattle.theory_sound.specs.ToSound.{sound-again}
 use Rattle.theory_sound.specs.SoundAfter.{Reserved, used-within, reserves-hold}
 use Rattle.theory_sound.specs.SoundKept.{areas-after}
@@ -55,26 +54,21 @@ pub record Readable (a : Areas) : Type 0 where
   pub low-records : LowRecords (stable-log a)
   pub small : Small (open-batches (stable-log a))
 
--- A log that keeps refusal 4 is its records, each in its slot, and empty slots.
-empties : (s : List Slot) → every is-empty s ≡ true → same-slots s (replicate (length s) empty) ≡ true
-unfolding every is-empty same-slots same-slot
-empties [] e = refl
-empties (empty ∷ s) e = empties s e
-empties (full n r ∷ s) e = clash (sym e)
-empties (other b ∷ s) e = clash (sym e)
-
-slots-are : (n m : ℕ) (s : List Slot) → slots-ok n m s ≡ true → same-slots s (slots-from m (records-of s) ++ replicate (length s - length (records-of s)) empty) ≡ true
-unfolding slots-ok records-of slots-from same-slots same-slot every is-empty
-slots-are n m [] e = refl
-slots-are n m (empty ∷ s) e = let k : suc (length s) - 0 ≡ suc (length s) = omega arith in subst (λ z. same-slots (empty ∷ s) (replicate z empty) ≡ true) (sym k) (empties s e)
-slots-are n m (full j r ∷ s) e =
-    let (a, e₁) = and-true (eqb j m) _ e in
-    let (b, e₂) = and-true (row m r) _ e₁ in
-    let (c, e₃) = and-true (names-pages n r) (slots-ok n (suc m) s) e₂ in
-    let k : suc (length s) - suc (length (records-of s)) ≡ length s - length (records-of s) = omega arith in
-    and-both (subst (λ z. same-slot (full j r) (full z r) ≡ true) (true-eq j m a) (slot-same (full j r)))
-    (subst (λ z. same-slots s (slots-from (suc m) (records-of s) ++ replicate z empty) ≡ true) (sym k) (slots-are n (suc m) s e₃))
-slots-are n m (other b ∷ s) e = clash (sym e)
+-- Where no check is broken it did not stop.
+pub unstopped : (a : Areas) → first-broken (restart-checks a) ≡ none → restarted a .stop ≡ 0
+unfolding restart-checks
+unstopped a e =
+    let e₁ = kept-check (layouts-ok (a .stable)) Layout _ e .1 in
+    let e₂ = kept-check (log-ok (a .stable)) Log _ e₁ .1 in
+    let e₃ = kept-check (redo-fits 1 (stable-log a) (stable-pages a)) Redo _ e₂ .1 in
+    let e₄ = kept-check (tree-ok (redone-pages a) && pending-ok (redone-pages a) (open-batches (stable-log a))) Rules _ e₃ .1 in
+    let (s, e₅) = none-broken (check (eqb (restarted a .stop) 17) SlotsShort) _ e₄ in
+    go s (none-broken (check (eqb (restarted a .stop) 18) PagesShort) [] e₅ .0) (restarted-cases a)
+  where
+    go : eqb (restarted a .stop) 17 ≡ false → eqb (restarted a .stop) 18 ≡ false → (restarted a .stop ≡ 0) ⊎ ((restarted a .stop ≡ 17) ⊎ (restarted a .stop ≡ 18)) → restarted a .stop ≡ 0
+    go s p (inl e) = e
+    go s p (inr (inl e)) = clash (sym (eq-true (restarted a .stop) 17 e) ∙ s)
+    go s p (inr (inr e)) = clash (sym (eq-true (restarted a .stop) 18 e) ∙ p)
 
 module _ (a : Areas) (d : Desk) (b : Readable a) (p : passed (outcome restart a d .answer) ≡ true) where
   -- Every check passed.
@@ -82,16 +76,14 @@ module _ (a : Areas) (d : Desk) (b : Readable a) (p : passed (outcome restart a 
   unfolding checks
   none-found = passed-does restart a d p .0
 
-  record Passed : Type 0 where
-    layouts : layouts-ok (a .stable) ≡ true
-    log : log-ok (a .stable) ≡ true
-    fits : redo-fits 1 (stable-log a) (stable-pages a) ≡ true
-    tree : tree-ok (redone-pages a) ≡ true
-    pending : pending-ok (redone-pages a) (open-batches (stable-log a)) ≡ true
-    slots : eqb (restarted a .stop) 17 ≡ false
-    pages : eqb (restarted a .stop) 18 ≡ false
+  pub record Passed : Type 0 where
+    pub layouts : layouts-ok (a .stable) ≡ true
+    pub log : log-ok (a .stable) ≡ true
+    pub fits : redo-fits 1 (stable-log a) (stable-pages a) ≡ true
+    pub tree : tree-ok (redone-pages a) ≡ true
+    pub pending : pending-ok (redone-pages a) (open-batches (stable-log a)) ≡ true
 
-  asked : Passed
+  pub asked : Passed
   unfolding restart-checks
   asked =
       let (c₁, e₁) = kept-check (layouts-ok (a .stable)) Layout _ none-found in
@@ -99,26 +91,19 @@ module _ (a : Areas) (d : Desk) (b : Readable a) (p : passed (outcome restart a 
       let (c₃, e₃) = kept-check (redo-fits 1 (stable-log a) (stable-pages a)) Redo _ e₂ in
       let (c₄, e₄) = kept-check (tree-ok (redone-pages a) && pending-ok (redone-pages a) (open-batches (stable-log a))) Rules _ e₃ in
       let (t, q) = and-true (tree-ok (redone-pages a)) (pending-ok (redone-pages a) (open-batches (stable-log a))) c₄ in
-      let (s, e₅) = none-broken (check (eqb (restarted a .stop) 17) SlotsShort) _ e₄ in
-      let (g, e₆) = none-broken (check (eqb (restarted a .stop) 18) PagesShort) [] e₅ in
-      record { layouts = c₁; log = c₂; fits = c₃; tree = t; pending = q; slots = s; pages = g }
+      record { layouts = c₁; log = c₂; fits = c₃; tree = t; pending = q }
 
   ends : restarted a .stop ≡ 0
-  ends = go (restarted-cases a)
-    where
-      go : (restarted a .stop ≡ 0) ⊎ ((restarted a .stop ≡ 17) ⊎ (restarted a .stop ≡ 18)) → restarted a .stop ≡ 0
-      go (inl e) = e
-      go (inr (inl e)) = clash (sym (eq-true (restarted a .stop) 17 e) ∙ asked .slots)
-      go (inr (inr e)) = clash (sym (eq-true (restarted a .stop) 18 e) ∙ asked .pages)
+  ends = unstopped a none-found
 
   count : length (stable-pages a) ≡ length (a .stable .pages)
   count = length-map (a .stable .pages) page-in
 
-  slots-good : slots-ok (length (a .stable .pages)) 1 (a .stable .log) ≡ true
+  pub slots-good : slots-ok (length (a .stable .pages)) 1 (a .stable .log) ≡ true
   unfolding log-ok
   slots-good = and-true (slots-ok (length (a .stable .pages)) 1 (a .stable .log)) _ (asked .log) .0
 
-  chain-good : (chain-ok 1 (stable-log a) [] ≡ true) × (numbers-ok (length (stable-log a)) (stable-pages a) ≡ true)
+  pub chain-good : (chain-ok 1 (stable-log a) [] ≡ true) × (numbers-ok (length (stable-log a)) (stable-pages a) ≡ true)
   unfolding log-ok
   chain-good = and-true (chain-ok 1 (stable-log a) []) _ (and-true (slots-ok (length (a .stable .pages)) 1 (a .stable .log)) _ (asked .log) .1)
 
@@ -151,25 +136,33 @@ module _ (a : Areas) (d : Desk) (b : Readable a) (p : passed (outcome restart a 
         },
       )
 
-  sl : List Entry
+  pub sl : List Entry
   sl = start .0
 
-  trailed : Trail (redone a) sl (restarted a) sl × (open-batches (restarted a .log) ≡ [])
+  pub started : Core (length (a .stable .pages)) (redone a) sl
+  unfolding sl
+  started = start .1
+
+  pub trailed : Trail (redone a) sl (restarted a) sl × (open-batches (restarted a .log) ≡ [])
   unfolding restarted sl
   trailed = settle-trail (length (a .stable .pages)) (b .few) (redone a) (start .0) (start .1) ends
 
   pub none-open : open-batches (restarted a .log) ≡ []
   none-open = trailed .1
 
-  core : Core (length (a .stable .pages)) (restarted a) sl
+  pub core : Core (length (a .stable .pages)) (restarted a) sl
   unfolding sl
   core = trail-core (b .few) (trailed .0) (start .1)
 
   held : Stores (a .stable) (length (stable-log a)) (stable-log a)
   unfolding log-area
-  held = (omega arith, subst (λ z. same-slots (a .stable .log) (log-area (length (a .stable .log)) z) ≡ true) (sym (take-all (length (stable-log a)) (stable-log a) (omega arith))) (slots-are (length (a .stable .pages)) 1 (a .stable .log) slots-good))
+  held = (
+    omega arith,
+    subst (λ z. same-slots (a .stable .log) (log-area (length (a .stable .log)) z) ≡ true) (sym (take-all (length (stable-log a)) (stable-log a) (omega arith)))
+        (subst (λ z. same-slots (a .stable .log) z ≡ true) (slots-exact (length (a .stable .pages)) 1 (a .stable .log) slots-good) (slots-same (a .stable .log))),
+  )
 
-  longer : (more : List Rec) × (restarted a .log ≡ stable-log a ++ more)
+  pub longer : (more : List Rec) × (restarted a .log ≡ stable-log a ++ more)
   unfolding redone
   longer = let g = trail-longer (trailed .0) in (g .recs, g .log)
 

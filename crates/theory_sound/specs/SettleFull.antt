@@ -19,7 +19,7 @@ use Rattle.theory_ledger.specs.Held.{Distinct}
 use Rattle.theory_history.specs.Core.{Core}
 use Rattle.theory_history.specs.Trail.{trail-core}
 use Rattle.theory_history.specs.Settling.{Positive, picked-line, Carried, left-after, all-marked, idle-ended, begun}
-use Rattle.theory_sound.specs.LineRoom.{LineLaw}
+use Rattle.theory_reserve.specs.LineRoom.{LineLaw}
 use Rattle.theory_sound.specs.SettleRoom.{newest-law}
 
 -- ---- a run that has halted stays so

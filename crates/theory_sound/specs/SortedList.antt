@@ -1,5 +1,5 @@
--- FETCH, NEXT, INSERT AND DELETE ANSWER AS A SORTED LIST WOULD, on every sound register. The list is the records in the leaves, by rising
--- key (`leaves-rise`); 01's rules on held keys and free places come first, in number order.
+-- FETCH, NEXT, PREVIOUS, INSERT AND DELETE ANSWER AS A SORTED LIST WOULD, on every sound register (return: `Returning`). The list is the records in the
+-- leaves, by rising key (`leaves-rise`); 01's rules on held keys and free places come first, in number order.
 use Prim.Native.Nat.{ℕ, suc, _+_, _-_, _*_, _≤_, _<_}
 use mathlib.Core.Path.{_≡_, refl, ap, _∙_}
 use mathlib.Core.Logic.{_≢_}
@@ -53,6 +53,12 @@ list-fetch (some v) a d = unchanged (Number v) a d
 unfoldable pub list-next : Option Entry → Areas → Desk → Outcome
 list-next none a d = refuse Absent a d
 list-next (some e) a d = unchanged (Pair (e .key) (e .val)) a d
+
+-- Insert, delete and return: the list is another.
+pub record Changed (o : Outcome) (es : List Entry) : Type 0 where
+  pub done : o .answer ≡ Done
+  pub leaves : leaf-records (pages-of (o .work .pages)) ≡ es
+  pub nothing-stored : o .stores ≡ []
 
 skip : (b : Bool) (r : Refusal) (cs : List Check) → b ≡ false → first-broken (check b r ∷ cs) ≡ first-broken cs
 unfolding first-broken
@@ -161,12 +167,6 @@ module _ (a : Areas) (d : Desk) (s : sound a d ≡ true) where
         broken-refused (request (insert b k v)) a d Present
         (insert-asks b k nz u h ∙ ap (λ z. first-broken (check (found z) Present ∷ no-slots a ∷ no-pages a ∷ [])) (fetched-is k (work-pages a) tree kt ∙ p))
 
-    -- A key that is not.
-    pub record Changed (o : Outcome) (es : List Entry) : Type 0 where
-      pub done : o .answer ≡ Done
-      pub leaves : leaf-records (pages-of (o .work .pages)) ≡ es
-      pub nothing-stored : o .stores ≡ []
-
     slots-room : update-has-slots (work-slots a) (work-log a) (work-open a) ≡ true → 32 ≤ run-of a .room
     unfolding update-has-slots reserve run-of
     slots-room e = let y = true-le (length (work-log a) + 32 + (32 * suc (pending-count (work-open a)) + 2 * length (work-open a))) (work-slots a) e in omega arith
@@ -175,6 +175,7 @@ module _ (a : Areas) (d : Desk) (s : sound a d ≡ true) where
     unfolding update-has-pages run-of
     pages-room e = let y = true-le (7 + 7 * suc (pending-count (work-open a))) (length (work-pages a) - used-pages (work-pages a)) e in omega arith
 
+    -- A key that is not.
     pub insert-answers : (b k v : ℕ) → k ≢ 0 → k ≤ top → unmarked (find-batch b (work-open a)) ≡ true → held b k (work-open a) ≡ false → look k (list a) ≡ none
         → update-has-slots (work-slots a) (work-log a) (work-open a) ≡ true → update-has-pages (work-pages a) (work-open a) ≡ true → Changed (outcome (request (insert b k v)) a d) (insert-sorted k v (list a))
     unfolding checks request-checks does request-does insert-slide first-broken found kept-run run-side

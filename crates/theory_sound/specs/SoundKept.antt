@@ -42,11 +42,11 @@ use Rattle.theory_history.specs.Undoing.{Returned, return-trail, abort-trail}
 use Rattle.theory_desk.specs.Counting.{change-pending, change-count, drop-pending, more-pending}
 use Rattle.theory_room.specs.Reasons.{Within}
 use Rattle.theory_calls.specs.Checks.{sound-parts, some-of, live-batch}
-use Rattle.theory_calls.specs.Passing.{emit-room}
+use Rattle.theory_reserve.specs.LineRoom.{emit-room}
 use Rattle.theory_calls.specs.Within.{return-within, abort-within}
 use Rattle.theory_sound.specs.FromSound.{sound-core}
-use Rattle.theory_sound.specs.LineRoom.{Spent, begin-pages, commit-pages}
-use Rattle.theory_sound.specs.AbortRoom.{above-spent, abort-spent}
+use Rattle.theory_reserve.specs.LineRoom.{Spent, begin-pages, commit-pages}
+use Rattle.theory_reserve.specs.AbortRoom.{above-spent, abort-spent}
 use Rattle.theory_sound.specs.SoundAfter.{Reserved, reserved, kept-sound, stored-sound}
 
 -- The areas after a call and all its stores.

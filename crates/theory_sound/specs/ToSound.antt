@@ -33,7 +33,7 @@ use Rattle.theory_history.specs.Redoing.{numbers-true}
 
 -- ---- slots
 
-rows-slots : (n m k : ℕ) (log : List Rec) → RowsOk m log → NamesOk n log → slots-ok n m (slots-from m log ++ replicate k empty) ≡ true
+pub rows-slots : (n m k : ℕ) (log : List Rec) → RowsOk m log → NamesOk n log → slots-ok n m (slots-from m log ++ replicate k empty) ≡ true
 unfolding slots-ok slots-from RowsOk NamesOk
 rows-slots n m k [] r s = empty-slots n m k
 rows-slots n m k (x ∷ log) r s = and-both (eq-true m m refl) (and-both (r .0) (and-both (s .0) (rows-slots n (suc m) k log (r .1) (s .1))))

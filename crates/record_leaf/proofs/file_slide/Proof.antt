@@ -19,12 +19,12 @@ returns-3 c = ((λ e. refl), λ x r eb f ek ev q. clash (sym q))
 
 returns-4 : tie.Need-returns-4
 returns-4 c =
-    let a = c .before .before .before .before .before .before .before .before .before .before .before .before .before .before .before .before .before .before .before .before .before .before .before .args in
-    let w = c .before .before .before .before .before .before .before .before .before .before .before .before .before .before .before .before .before .before .before .before .get32 in
-    let s = c .before .before .before .before .before .before .before .before .before .before .before .seek in (
+    let a = c .before .before .before .before .before .before .before .before .before .before .before .before .before .before .before .before .before .before .before .before .before .before .before .before .args in
+    let w = c .before .before .before .before .before .before .before .before .before .before .before .before .before .before .before .before .before .before .before .before .before .get32 in
+    let s = c .before .before .before .before .before .before .before .before .before .before .before .before .seek in (
       (λ e. clash e),
       λ x r eb f ek ev q.
-          filed (a .own) (a .k) (a .v) (w .result) _ (s .result .place) (a .b .now) _ _ (w .ensures) (search needs) refl (search needs) (sym (s .ensures .1) ∙ not-false _ (c .before .before .before .before .before .before .before .before .before .if3 .left)) (s .ensures .0) (s .ensures .2)
+          filed (a .own) (a .k) (a .v) (w .result) _ (s .result .place) (a .b .now) _ _ (w .ensures) (search needs) refl (search needs) (sym (s .ensures .1) ∙ not-false _ (c .before .before .before .before .before .before .before .before .before .before .if3 .left)) (s .ensures .0) (s .ensures .2)
           (c .before .before .before .before .before .before .put-in .ensures) (c .before .before .stamp .ensures) x r eb f ek ev,
     )
 
@@ -43,9 +43,11 @@ file-slide-spec =
     (λ c. search needs)
     (λ c. search needs)
     (λ c κs. search needs)
+    (λ c. search needs)
     (λ c κs. search needs)
     (λ c. search needs)
     returns-3
+    (λ c. search needs)
     (λ c. search needs)
     (λ c κs. search needs)
     (λ c. search needs)

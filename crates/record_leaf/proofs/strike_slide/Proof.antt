@@ -27,16 +27,16 @@ returns-5 c = ((λ e. refl), λ x r eb f ek ev q. clash (sym q))
 
 returns-6 : tie.Need-returns-6
 returns-6 c =
-    let a = c .before .before .before .before .before .before .before .before .before .before .before .before .before .before .before .before .before .before .before .before .before .before .before .before .before .before .before .before .args in
-    let w = c .before .before .before .before .before .before .before .before .before .before .before .before .before .before .before .before .before .before .before .before .before .before .before .before .before .get32 in
-    let s = c .before .before .before .before .before .before .before .before .before .before .before .before .before .before .before .before .seek in
+    let a = c .before .before .before .before .before .before .before .before .before .before .before .before .before .before .before .before .before .before .before .before .before .before .before .before .before .before .before .before .before .args in
+    let w = c .before .before .before .before .before .before .before .before .before .before .before .before .before .before .before .before .before .before .before .before .before .before .before .before .before .before .get32 in
+    let s = c .before .before .before .before .before .before .before .before .before .before .before .before .before .before .before .before .before .seek in
     let z : 20 + 8 * s .result .place ≡ 16 + 8 * s .result .place + 4 = omega arith in
-    let few : s .result .place < 14 = omega (arith, c .before .before .before .before .before .before .before .before .before .before .before .before .before .before .before .if3 .left, c .before .before .before .before .before .before .before .before .before .before .before .before .before .before .before .before .before .before .before .before .before .before .before .if2 .left) in (
+    let few : s .result .place < 14 = omega (arith, c .before .before .before .before .before .before .before .before .before .before .before .before .before .before .before .if3 .left, c .before .before .before .before .before .before .before .before .before .before .before .before .before .before .before .before .before .before .before .before .before .before .before .before .if2 .left) in (
       (λ e. clash e),
       λ x r eb f ek ev q.
-          struck (a .own) (a .k) (a .v) (w .result) _ (s .result .place) (a .b .now) _ _ (w .ensures) (c .before .before .before .before .before .before .before .before .before .before .before .before .before .before .before .before .before .before .before .before .before .before .before .before .if1 .left) refl (s .ensures .0) (search needs)
+          struck (a .own) (a .k) (a .v) (w .result) _ (s .result .place) (a .b .now) _ _ (w .ensures) (c .before .before .before .before .before .before .before .before .before .before .before .before .before .before .before .before .before .before .before .before .before .before .before .before .before .if1 .left) refl (s .ensures .0) (search needs)
           (key-shown (a .b .now) (s .result .place) few ∙ sym (c .before .before .before .before .before .before .before .before .before .before .before .before .before .get322 .ensures) ∙ c .before .before .before .before .before .before .before .before .before .before .before .before .if4 .left)
-          (val-shown (a .b .now) (s .result .place) few ∙ ap (be32 (a .b .now)) (sym z) ∙ sym (c .before .before .before .before .before .before .before .before .before .before .get323 .ensures) ∙ c .before .before .before .before .before .before .before .before .before .if5 .left) (c .before .before .before .before .before .before .before .before .before .before .before .before .before .before .before .before .before .before .before .before .before .before .before .if2 .left)
+          (val-shown (a .b .now) (s .result .place) few ∙ ap (be32 (a .b .now)) (sym z) ∙ sym (c .before .before .before .before .before .before .before .before .before .before .get323 .ensures) ∙ c .before .before .before .before .before .before .before .before .before .if5 .left) (c .before .before .before .before .before .before .before .before .before .before .before .before .before .before .before .before .before .before .before .before .before .before .before .before .if2 .left)
           (c .before .before .before .before .before .before .take-out .ensures) (c .before .before .stamp .ensures) x r eb f ek ev,
     )
 
@@ -55,7 +55,9 @@ strike-slide-spec =
     (λ c. search needs)
     (λ c. search needs)
     (λ c κs. search needs)
+    (λ c. search needs)
     (λ c κs. search needs)
+    (λ c. search needs)
     (λ c. search needs)
     returns-3
     (λ c. search needs)

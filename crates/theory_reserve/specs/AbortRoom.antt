@@ -21,8 +21,7 @@ use Rattle.theory_history.specs.Core.{Core, told-due}
 use Rattle.theory_history.specs.Notes.{mark-next}
 use Rattle.theory_history.specs.Trail.{trail-core, trail-emit}
 use Rattle.theory_history.specs.Undoing.{line-undone}
-use Rattle.theory_calls.specs.Passing.{emit-room}
-use Rattle.theory_sound.specs.LineRoom.{Spent, spent-none, spent-more, spent-then, mark-pages, end-pages, note-spent, line-law}
+use Rattle.theory_reserve.specs.LineRoom.{emit-room, Spent, spent-none, spent-more, spent-then, mark-pages, end-pages, note-spent, line-law}
 
 module _ (n : ℕ) (most : n ≤ map-bits) where
   -- A RETURN, by how many lines are above the mark.

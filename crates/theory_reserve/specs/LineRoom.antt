@@ -6,6 +6,7 @@ use mathlib.Core.Option.{Option, some}
 use mathlib.Core.List.{List, _∷_}
 use native.Mathlib.Omega.{arith}
 use lib.ListN.{length}
+use Rattle.def_base.specs.Tests.{lt-true}
 use Rattle.def_layout.specs.declared.Entry.{Entry}
 use Rattle.def_layout.specs.Entries.{top, look}
 use Rattle.def_layout.specs.Pages.{Page, map-bits}
@@ -16,13 +17,17 @@ use Rattle.def_model.specs.Update.{Run, emit}
 use Rattle.def_model.specs.Batches.{Line, Batch, open-batches, find-batch, next-undo}
 use Rattle.def_model.specs.Undo.{undo-by, undo-line}
 use Rattle.theory_tree.specs.Step.Steps.{by-undo-insert, by-undo-delete}
+use Rattle.theory_update.specs.Run.Way.{written-by, emit-goes}
 use Rattle.theory_update.specs.Run.Keeps.{Stuck, Halt}
 use Rattle.theory_update.specs.Laws.{Kept, put-law, remove-law, put-stopped, remove-stopped}
 use Rattle.theory_ledger.specs.Runs.{DoesBy}
 use Rattle.theory_ledger.specs.Settles.{newest-does}
 use Rattle.theory_ledger.specs.Small.{SmallLines, found-small, small-first}
 use Rattle.theory_history.specs.Core.{Core, core-ready}
-use Rattle.theory_calls.specs.Passing.{emit-room}
+
+-- A run that has room logs its next record.
+pub emit-room : (r : Rec) (s : Run) → s .stop ≡ 0 → 0 < s .room → emit r s ≡ written-by r s
+emit-room r s z l = emit-goes r s z (lt-true 0 (s .room) l)
 
 -- From run s to run t: it goes on, with at most so many records and pages more.
 pub record Spent (records pages : ℕ) (s t : Run) : Type 0 where

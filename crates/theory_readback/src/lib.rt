@@ -1,0 +1,1 @@
+// What a call leaves in its bytes is read back: see specs/.

@@ -1,0 +1,1 @@
+// The reserves make an undo find room: see specs/.
