@@ -13,7 +13,7 @@ use Rattle.def_recovery.specs.Events.{World, Rubble, ended, cut, grown, passes,
 pub granted-if : (c : Call) (w : World) → of-32-bits c ≡ true → (passes c w ≡ false) ⊎ ((is-format c ≡ false) × ((w .since-cut ≡ false) ⊎ (is-restart c ≡ true))) → Granted c w
 granted-if c w k (inl p) = record { numbers = k; no-format = λ f. p; restart-first = λ s q. clash (sym q ∙ p) }
 granted-if c w k (inr (f, inl n)) = record { numbers = k; no-format = λ e. clash (sym e ∙ f); restart-first = λ s q. clash (sym s ∙ n) }
-granted-if c w k (inr (f, inr r)) = record { numbers = k; no-format = λ e. clash (sym e ∙ f); restart-first = λ s q. r }
+granted-if c w k (inr (f, inr r)) = record { numbers = k; no-format = λ e. clash (sym e ∙ f); restart-first = λ s q. rw (r) }
 
 pub restart-granted : (w : World) → Granted restart w
 unfolding of-32-bits is-format is-restart
