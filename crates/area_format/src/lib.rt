@@ -1,4 +1,6 @@
 // Formatting and loading: the working areas become a register of some records, and its empty log, which are then stored.
+#![tactic(auto)]
+
 ghost use Rattle.std.specs.Prelude.{◌≡◌, [], map, ◌*◌, ◌/◌, ◌≤◌, ◌<◌, length, replicate};
 ghost use Rattle.def_layout.specs.Sizes.{page_size, slot_size};
 ghost use Rattle.def_layout.specs.Entries.{top};

@@ -1,4 +1,6 @@
 // Refusal 1: whether the four lent areas have lengths that a register can have.
+#![tactic(auto)]
+
 ghost use Rattle.std.specs.Prelude.{◌≡◌, ◌&&◌, ◌%◌, ◌<◌, leb, eqb};
 ghost use Rattle.def_model.specs.OnBytes.{lengths_ok};
 ghost use Rattle.area_lengths.specs.Lent.{at_entry};

@@ -1,4 +1,6 @@
 // Pages for records: each page of the tree that a loading builds, by its number and by value, and their map.
+#![tactic(auto)]
+
 ghost use Rattle.std.specs.Prelude.{◌≡◌, false, map, suc, ◌+◌, ◌*◌, ◌/◌, ◌-◌, ◌≤◌, ◌<◌, length, leb};
 ghost use Rattle.def_layout.specs.Entries.{entry_at};
 ghost use Rattle.def_layout.specs.Numbers.{tab};
@@ -115,7 +117,7 @@ pub fn last_under(n: usize, height: usize, i: usize) -> usize
 }
 
 // What a page holds: so many entries from one of its height's on, and whether it ends its level. Links are to the pages from `below` on.
-#[derive(Drop)]
+#[derive(Clone, Copy)]
 pub struct Place {
     pub height: usize,
     pub below: usize,

@@ -2,6 +2,8 @@
 //
 // 01: "a call's stores are a run of one-store steps with a budget". A call names its list of stores; `store_one` makes one store of a list
 // and no other, once those before it are made; `store_first` is the only loop over it.
+#![tactic(auto)]
+
 ghost use Rattle.std.specs.Prelude.{◌≡◌, List, ◌+◌, ◌*◌, ◌≤◌, ◌<◌, min, length};
 ghost use Rattle.def_layout.specs.Sizes.{slot_size, most_slots};
 ghost use Rattle.def_model.specs.Areas.{Store};
@@ -15,7 +17,7 @@ use codec_page::store_at;
 use def_layout::{PAGE_SIZE, SLOT_SIZE};
 
 // Pages in a row, or slots: `count` of them from place `from` on, the first of an area being at place 0.
-#[derive(Drop)]
+#[derive(Clone, Copy)]
 pub struct Span {
     pub pages: bool,
     pub from: usize,
@@ -23,14 +25,14 @@ pub struct Span {
 }
 
 // A call's list of stores: those of one span in order, then those of another.
-#[derive(Drop)]
+#[derive(Clone, Copy)]
 pub struct Stores {
     pub first: Span,
     pub rest: Span,
 }
 
 // Where a store goes: to a page, or to a slot.
-#[derive(Drop)]
+#[derive(Clone, Copy)]
 pub enum Place {
     Page(usize),
     Slot(usize),

@@ -1,4 +1,6 @@
 // The calls that end a batch, take some of it back, or store: commit, abort, mark, return and write-out.
+#![tactic(auto)]
+
 ghost use Rattle.std.specs.Prelude.{List, ℕ, ◌≤◌, ◌<◌};
 ghost use Rattle.def_model.specs.CallNames as calls;
 ghost use Rattle.law_bytes.specs.AreaSizes.{HasSlots, HasAreas};

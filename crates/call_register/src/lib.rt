@@ -1,4 +1,6 @@
 // The register's calls on lent areas of any lengths and any bytes.
+#![tactic(auto)]
+
 ghost use Rattle.std.specs.Prelude.{◌≡◌, false, ℕ};
 ghost use Rattle.def_model.specs.CallNames as calls;
 ghost use Rattle.area_lengths.specs.Lent.{at_entry, at_exit};
@@ -16,7 +18,7 @@ use def_model::Refusal;
 use sound_register::{Standing, standing_of};
 
 // What a call finds first: how many pages and slots there are, and where the register stands; or, where it is not ok, why.
-#[derive(Drop)]
+#[derive(Clone, Copy)]
 struct Entry {
     ok: bool,
     why: Refusal,

@@ -1,4 +1,6 @@
 // What a call answers, and how that and what it leaves are compared with the definitions.
+#![tactic(auto)]
+
 ghost use Rattle.std.specs.Prelude.{◌≡◌};
 ghost use Rattle.def_model.specs.declared.Answer.TheVariants.{Refused};
 
@@ -6,7 +8,7 @@ use def_layout::Desk;
 use def_model::{Answer, Refusal};
 
 // An answer, and the desk that goes with it.
-#[derive(Drop)]
+#[derive(Clone, Copy)]
 pub struct Reply {
     pub answer: Answer,
     pub desk: Desk,

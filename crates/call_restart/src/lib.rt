@@ -1,4 +1,6 @@
 // Restart, from the stable areas alone: the image judged, copied and redone, open batches settled, and the new records stored.
+#![tactic(auto)]
+
 ghost use Rattle.std.specs.Prelude.{◌≡◌, true, false, ◌≤◌, length};
 ghost use Rattle.def_layout.specs.Desks.{empty_desk};
 ghost use Rattle.def_layout.specs.Numbers.{zeros};
@@ -29,7 +31,7 @@ use tree_write::Run;
 
 // Whether restart's 3 to 6 find nothing in an image, or which of them does; what its log says of its open batches, with its count of records; and
 // how many page changes were redone. Of a verdict that is ok, `why` says nothing.
-#[derive(Drop)]
+#[derive(Clone, Copy)]
 pub struct Verdict {
     pub ok: bool,
     pub why: Refusal,

@@ -1,4 +1,6 @@
 // The calls on the lent areas of a sound register: begin, fetch, next, previous, insert and delete.
+#![tactic(auto)]
+
 ghost use Rattle.std.specs.Prelude.{◌≡◌, ◌≢◌, false, List, ℕ, ◌+◌, ◌≤◌, ◌<◌, set};
 ghost use Rattle.def_layout.specs.Sizes.{most_slots};
 ghost use Rattle.def_layout.specs.Desks.{row_at};
@@ -183,7 +185,7 @@ fn value_in(f: Value) -> u32
 }
 
 // What an update's checks come to: its batch's row; or, where they are not ok, why.
-#[derive(Drop)]
+#[derive(Clone, Copy)]
 struct Bar {
     ok: bool,
     why: Refusal,

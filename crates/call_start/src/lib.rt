@@ -1,4 +1,6 @@
 // Formatting and loading, on lent areas of any lengths and any bytes.
+#![tactic(auto)]
+
 ghost use Rattle.std.specs.Prelude.{◌≡◌, true, false, [], ◌/◌, ◌≤◌, ◌<◌, length, eqb};
 ghost use Rattle.def_base.specs.Tests.{any};
 ghost use Rattle.def_layout.specs.Pages.{map_bits};
@@ -95,7 +97,7 @@ fn rising(keys: &[u32]) -> bool
 }
 
 // Whether a loading may go on, or why not.
-#[derive(Drop)]
+#[derive(Clone, Copy)]
 struct Verdict {
     ok: bool,
     why: Refusal,

@@ -1,4 +1,6 @@
 // Undo: lines from the root, newest first; a batch aborted; every open batch settled at a restart.
+#![tactic(auto)]
+
 ghost use Rattle.std.specs.Prelude.{◌≡◌, false, List, map, ◌≤◌, ◌<◌, length};
 ghost use Rattle.def_layout.specs.Desks.{eight_rows};
 ghost use Rattle.def_layout.specs.Records.{Rec};
@@ -34,14 +36,14 @@ use tree_remove::remove_record;
 use tree_write::{Run, emit};
 
 // A run, and a row after its turn.
-#[derive(Drop)]
+#[derive(Clone, Copy)]
 pub struct Turn {
     pub run: Run,
     pub row: Row,
 }
 
 // A run, and the desk's rows after a round.
-#[derive(Drop)]
+#[derive(Clone, Copy)]
 pub struct Round {
     pub run: Run,
     pub rows: [Row; 8],

@@ -2,6 +2,8 @@
 //
 // Every store is said as a patch: the area as it was, with new bytes from one place on. Whoever writes to an area cites the laws of
 // `patch` and never a store of a single byte.
+#![tactic(auto)]
+
 ghost use Rattle.std.specs.Prelude.{◌≡◌, ◌&&◌, ◌+◌, ◌≤◌, ◌<◌, length, eqb};
 ghost use Rattle.def_layout.specs.Numbers.{be32, put32, same_bytes, zeros};
 ghost use Rattle.law_bytes.specs.Words.{part};

@@ -1,4 +1,6 @@
 // The desk's rows, and its 136 bytes.
+#![tactic(auto)]
+
 ghost use Rattle.std.specs.Prelude.{◌≡◌, ◌+◌, ◌≤◌, ◌<◌, length, replicate};
 ghost use Rattle.def_layout.specs.Sizes.{desk_size};
 ghost use Rattle.def_layout.specs.Numbers.{chunks};

@@ -1,4 +1,6 @@
 // The map's marks, word by word: "free pages by counting ones in map words; the highest free page by .. trailing zeros".
+#![tactic(auto)]
+
 ghost use Rattle.std.specs.Prelude.{◌≡◌, ℕ, ◌-◌, ◌/◌, ◌^◌, ◌≤◌, ◌<◌, eqb, take, set};
 ghost use Rattle.std.specs.Int.Count.{ones, count_trailing_zeros};
 ghost use Rattle.def_layout.specs.Sizes.{most_pages};

@@ -1,4 +1,6 @@
 // A page by value, read from and written to the 128 bytes where it stands.
+#![tactic(auto)]
+
 ghost use Rattle.std.specs.Prelude.{◌≡◌, true, ℕ, ◌+◌, ◌-◌, ◌*◌, ◌/◌, ◌%◌, ◌≤◌, ◌<◌, length, get_or};
 ghost use Rattle.def_layout.specs.Sizes.{page_size, most_pages};
 ghost use Rattle.def_layout.specs.Pages.{at, zero_page, layout};
@@ -22,7 +24,7 @@ use codec_entries::{blank_from, children_fit, read_entries, write_entries};
 use def_layout::{Entry, MOST_ENTRIES, MOST_PAGES, PAGE_SIZE, ROOM, page};
 
 // What a page holds. Of the map the 14 entries hold the 28 words of its marks, two to an entry.
-#[derive(Drop)]
+#[derive(Clone, Copy)]
 pub struct Page {
     pub kind: u32,
     pub level: u32,

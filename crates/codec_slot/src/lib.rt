@@ -1,4 +1,6 @@
 // A log slot by value: its header as an enum of numbers, its 14 entries beside it; read from and written to 144 bytes.
+#![tactic(auto)]
+
 ghost use Rattle.std.specs.Prelude.{◌≡◌, ◌+◌, ◌≤◌, ◌<◌, length};
 ghost use Rattle.def_layout.specs.Sizes.{slot_size};
 ghost use Rattle.def_layout.specs.Numbers.{chunks};
@@ -13,7 +15,7 @@ use codec_entries::{blank_from, read_entries, write_entries};
 use def_layout::{Entry, ROOM, SLOT_SIZE, slot};
 
 // 01: "a slot's header is decoded to an enum of numbers". Broken are bytes that are no record's.
-#[derive(Drop)]
+#[derive(Clone, Copy)]
 pub enum Header {
     Full {
         kind: u32,
@@ -33,7 +35,7 @@ pub enum Header {
     Broken,
 }
 
-#[derive(Drop)]
+#[derive(Clone, Copy)]
 pub struct Slot {
     pub header: Header,
     pub entries: [Entry; ROOM],

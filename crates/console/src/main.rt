@@ -1,4 +1,6 @@
 // The console: 64 pages and 160 slots, formatted; then one command a line from standard input, to its end, and one line for each.
+#![tactic(auto)]
+
 ghost use Rattle.std.specs.Prelude.{◌≡◌, ◌≤◌, length};
 ghost use Rattle.area_lengths.specs.Lent.{at_entry, at_exit};
 ghost use Rattle.face_console.specs.Hearing.{hear};

@@ -1,1 +1,2 @@
 // Tests that compute and the facts they stand for: see specs/.
+#![tactic(auto)]

@@ -1,4 +1,6 @@
 // The register's values: entries of pages and log records, and the desk. Where the fields of a page and of a slot stand is in `page` and `slot`.
+#![tactic(auto)]
+
 pub mod page;
 pub mod slot;
 
@@ -28,14 +30,14 @@ pub const MOST_ENTRIES: u32 = 14;
 pub const DESK_SIZE: usize = 136;
 
 // 01: "key 32, then a leaf's value 32, or an index's spare 22 and child 10".
-#[derive(Drop)]
+#[derive(Clone, Copy)]
 pub struct Entry {
     pub key: u32,
     pub val: u32,
 }
 
 // 01: "batch number, last record, next record to undo, pending count".
-#[derive(Drop)]
+#[derive(Clone, Copy)]
 pub struct Row {
     pub batch: u32,
     pub last: u32,
@@ -44,7 +46,7 @@ pub struct Row {
 }
 
 // 01: "The desk is a value with eight batch rows .. then counts of records in the working and the stable log."
-#[derive(Drop)]
+#[derive(Clone, Copy)]
 pub struct Desk {
     pub rows: [Row; 8],
     pub logged: u32,

@@ -1,7 +1,8 @@
 // What a call answers. The numbers of document 01 for each case are in specs/Answers.antt.
+#![tactic(auto)]
 
 // 01, "Reasons that come from the input" and "Reasons that come from the state"; and those that 02 adds.
-#[derive(Drop)]
+#[derive(Clone, Copy)]
 pub enum Refusal {
     Lengths,
     PageNumber,
@@ -25,7 +26,7 @@ pub enum Refusal {
 }
 
 // Done, with no, one or two numbers, or refused.
-#[derive(Drop)]
+#[derive(Clone, Copy)]
 pub enum Answer {
     Done,
     Number(u32),

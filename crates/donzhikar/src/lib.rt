@@ -2,6 +2,8 @@
 //
 // Every function takes the four areas in one order (working pages, stable pages, working log, stable log), then the desk's 136 bytes,
 // then 8 bytes for the answer's two values, then the call's numbers. It returns 0 or the refusal's number.
+#![tactic(auto)]
+
 ghost use Rattle.std.specs.Prelude.{◌≡◌, length};
 ghost use Rattle.def_layout.specs.Sizes.{desk_size};
 ghost use Rattle.def_model.specs.CallNames as calls;
@@ -16,7 +18,7 @@ use def_layout::{DESK_SIZE, Desk};
 use face_answers::{first_of, reason_of, second_of};
 
 // What stands before every call: whether the lengths are right, and the desk if they are.
-#[derive(Drop)]
+#[derive(Clone, Copy)]
 struct Request {
     ok: bool,
     desk: Desk,

@@ -1,4 +1,6 @@
 // An answer as numbers: 0 or the refusal's number, then its values.
+#![tactic(auto)]
+
 ghost use Rattle.std.specs.Prelude.{◌≡◌};
 ghost use Rattle.def_model.specs.Answers as model;
 

@@ -1,4 +1,6 @@
 // A line of the console: read byte by byte, so that it may be of any length, and taken as a command.
+#![tactic(auto)]
+
 ghost use Rattle.std.specs.Prelude.{◌≡◌, ◌≤◌};
 ghost use Rattle.face_command.specs.Lines as lines;
 ghost use Rattle.face_command.specs.Commands as commands;

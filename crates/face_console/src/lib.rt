@@ -1,4 +1,6 @@
 // The console's session: one command a line, carried out, and one line for each; all but the reading and the writing.
+#![tactic(auto)]
+
 ghost use Rattle.std.specs.Prelude.{◌≡◌, false, ◌+◌, ◌*◌, ◌≤◌, length};
 ghost use Rattle.io.specs.Counts.{IsPrefixLen};
 ghost use Rattle.def_layout.specs.Desks.{empty_desk};
@@ -19,7 +21,7 @@ use face_command::{Command, Line, command_of, new_line, step};
 use face_text::put_line;
 
 // What the console knows between two bytes: the line so far, the desk, how many bytes are to be printed, and whether there may be more to read.
-#[derive(Drop)]
+#[derive(Clone, Copy)]
 pub struct Heard {
     pub line: Line,
     pub desk: Desk,

@@ -1,4 +1,6 @@
 // A command and its answer as the line that the console prints.
+#![tactic(auto)]
+
 ghost use Rattle.std.specs.Prelude.{◌≡◌, [], ◌∷◌, ◌+◌, ◌≤◌, ◌<◌, length};
 ghost use Rattle.face_text.specs.Texts as texts;
 ghost use Rattle.face_text.specs.Puts.{Puts};

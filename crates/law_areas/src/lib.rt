@@ -1,1 +1,2 @@
 // What the bytes of the lent areas hold: see specs/.
+#![tactic(auto)]

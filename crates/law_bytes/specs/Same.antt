@@ -8,7 +8,7 @@ use Rattle.std.proofs.lemmas.List.{get_or-replicate, length-replicate}
 use Rattle.std.proofs.Math.ListN.{get_or-eq_default}
 use Rattle.std.proofs.Math.Decide.{dec_lt}
 use Rattle.std.proofs.Math.Seq.{drop-cons}
-use Rattle.def_base.specs.Tests.{Case, yes!, no!, case, clash, true_eq, eq_true, and-true, and_both}
+use Rattle.def_base.specs.Tests.{Case, yes!, no!, case, clash, true_eq, eq_true, and_true, and_both}
 use Rattle.def_layout.specs.Numbers.{be32, same_bytes, zeros}
 
 pub same_refl : (x : List ℕ) → same_bytes x x ≡ true
@@ -22,7 +22,7 @@ same_true [] [] e = refl
 same_true [] (y ∷ ys) e = clash (sym e)
 same_true (x ∷ xs) [] e = clash (sym e)
 same_true (x ∷ xs) (y ∷ ys) e =
-    let p = and-true (eqb x y) (same_bytes xs ys) e in
+    let p = and_true (eqb x y) (same_bytes xs ys) e in
     let q : x ≡ y = true_eq x y p.0 in
     let r : xs ≡ ys = same_true xs ys p.1 in
     cc

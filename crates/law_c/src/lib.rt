@@ -1,1 +1,2 @@
 // What C functions leave where they refuse a length: see specs/.
+#![tactic(auto)]

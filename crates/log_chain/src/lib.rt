@@ -1,4 +1,6 @@
 // The batch chain, one record after the other: which records may follow, and the rows and abort marks of the open batches that they say.
+#![tactic(auto)]
+
 ghost use Rattle.std.specs.Prelude.{◌≡◌, false, ◌≤◌, ◌<◌, set};
 ghost use Rattle.def_layout.specs.Sizes.{most_slots};
 ghost use Rattle.def_layout.specs.Numbers.{tab};
@@ -15,7 +17,7 @@ use def_layout::Row;
 use log_pending::{Line, line_at};
 
 // What a log says so far: whether it keeps 01's rules, the rows of its open batches, and which of these have their abort mark.
-#[derive(Drop)]
+#[derive(Clone, Copy)]
 pub struct Judged {
     pub ok: bool,
     pub rows: [Row; 8],
@@ -23,7 +25,7 @@ pub struct Judged {
 }
 
 // The numbers of a record that the batch chain asks for.
-#[derive(Drop)]
+#[derive(Clone, Copy)]
 pub struct Told {
     pub kind: u32,
     pub own: u32,

@@ -30,7 +30,7 @@ fn goes_on_first(row: Row, marked: bool, t: Told) -> bool
 }
 
 // What a slot makes of the first row alone, where it leaves the other rows and all marks as they are: whether that is known, and the row after it.
-#[derive(Drop)]
+#[derive(Clone, Copy)]
 pub struct First {
     pub done: bool,
     pub row: Row,

@@ -1,4 +1,6 @@
 // The log judged in one pass: each slot's row and number, the batch chain, and what the log says of its open batches.
+#![tactic(auto)]
+
 pub mod first;
 pub mod slots;
 
@@ -22,7 +24,7 @@ use slots::{batch_at, empty_slot, in_order, update_at};
 
 // What a log says: whether it keeps 01's rules, the rows of its open batches, which of these have their abort mark, and how many records it has.
 // Where it is not ok, the rest says nothing.
-#[derive(Drop)]
+#[derive(Clone, Copy)]
 pub struct Said {
     pub ok: bool,
     pub rows: [Row; 8],

@@ -1,4 +1,6 @@
 // The pending updates of a log's open batches, found through the log itself: each names a record from which the one below it is found.
+#![tactic(auto)]
+
 ghost use Rattle.law_bytes.specs.AreaSizes.{HasSlots};
 ghost use Rattle.log_pending.specs.Reading.{TellsAfter, TellsOf};
 ghost use Rattle.log_pending.specs.Lines.{TellsLine};
@@ -7,7 +9,7 @@ use codec_bytes::get32;
 use def_layout::{SLOT_SIZE, slot};
 
 // A pending update, and the number of the one below it in its batch.
-#[derive(Drop)]
+#[derive(Clone, Copy)]
 pub struct Line {
     pub number: u32,
     pub adds: bool,

@@ -1,4 +1,6 @@
 // What a log record does to a page that it changes: once, for live work and for redo.
+#![tactic(auto)]
+
 pub mod lists;
 pub mod pages;
 pub mod roles;
@@ -25,7 +27,7 @@ use pages::{cut, free_page, kind_at, mark, node, renew, with_list};
 use roles::role_of;
 
 // The numbers of a log record, but for its own, and its entries.
-#[derive(Drop)]
+#[derive(Clone, Copy)]
 pub struct Record {
     pub kind: u32,
     pub count: u32,

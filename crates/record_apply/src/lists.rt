@@ -10,7 +10,7 @@ use codec_entries::{append, find, insert_at, remove_at, upper_part};
 use def_layout::{Entry, ROOM};
 
 // Entries in use, the first `count` of fourteen.
-#[derive(Drop)]
+#[derive(Clone, Copy)]
 pub struct EntryList {
     pub count: usize,
     pub entries: [Entry; ROOM],

@@ -1,4 +1,6 @@
 // Whether a record keeps its row of 01's table (refusal 4): which fields its kind names, and what the row says within itself.
+#![tactic(auto)]
+
 ghost use Rattle.std.specs.Prelude.{◌≡◌, true, ◌&&◌, ◌/◌, ◌%◌, ◌≤◌, ◌<◌, eqb, leb};
 ghost use Rattle.def_layout.specs.Sizes.{page_size, room};
 ghost use Rattle.def_base.specs.Tests.{every};

@@ -1,4 +1,6 @@
 // Refusal 5: whether a page is one that a record's change starts from, "judged on that page alone".
+#![tactic(auto)]
+
 mod changes;
 mod entries;
 mod pages;

@@ -1,5 +1,7 @@
 // A slide filed in a leaf, or struck out of it, at the page's own bytes: nothing is decoded, and what stays is not written again. Where the page is
 // not one that the change starts from, nothing happens, and the caller goes the long way.
+#![tactic(auto)]
+
 ghost use Rattle.std.specs.Prelude.{◌≡◌, not, ◌&&◌, ◌++◌, ◌+◌, ◌-◌, ◌*◌, ◌≤◌, ◌<◌, length, ltb, eqb};
 ghost use Rattle.def_base.specs.Tests.{pick};
 ghost use Rattle.def_layout.specs.Sizes.{page_size, room};
@@ -23,7 +25,7 @@ const LAST_KEY_AT: usize = page::ENTRIES_AT - ENTRY_SIZE;
 const LAST_VALUE_AT: usize = page::VALUES_AT - ENTRY_SIZE;
 
 // Where a key belongs among entries, and whether none of them has it, in order or not.
-#[derive(Drop)]
+#[derive(Clone, Copy)]
 struct Sought {
     place: u8,
     missing: bool,

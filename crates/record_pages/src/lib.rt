@@ -1,4 +1,6 @@
 // Pages of a lent area by number, and a record applied to the pages that it names: by live work, and by redo.
+#![tactic(auto)]
+
 ghost use Rattle.std.specs.Prelude.{List, ℕ, ◌≤◌, set};
 ghost use Rattle.def_layout.specs.Sizes.{room};
 ghost use Rattle.def_layout.specs.Pages as layout;

@@ -1,4 +1,6 @@
 // Restart's redo of a whole log: each record at its pages, judged page by page, with the count of the page changes that it applied.
+#![tactic(auto)]
+
 ghost use Rattle.std.specs.Prelude.{◌≡◌, true, false, List, [], ◌+◌, ◌*◌, ◌/◌, ◌%◌, ◌≤◌, ◌<◌, length};
 ghost use Rattle.def_layout.specs.Sizes.{room, slot_size};
 ghost use Rattle.def_layout.specs.Pages as layout;
@@ -25,7 +27,7 @@ use record_leaf::slide_made;
 use record_pages::{page_at, put_page};
 
 // Whether every change that was reached fits its page, and if so how many of them were applied.
-#[derive(Drop)]
+#[derive(Clone, Copy)]
 pub struct Redone {
     pub ok: bool,
     pub count: u32,
@@ -158,7 +160,7 @@ pub fn redo_places(pages: &mut [u8], n: usize, r: Record, k: u32) -> Redone
 }
 
 // What was done at once: whether anything was, and how many page changes that was.
-#[derive(Drop)]
+#[derive(Clone, Copy)]
 struct AtOnce {
     done: bool,
     count: u32,

@@ -1,4 +1,6 @@
 // What "sound" asks of the lent bytes apart from the tree and the log's chain: layouts, log numbers, the stored log, the desk and the reserves.
+#![tactic(auto)]
+
 ghost use Rattle.std.specs.Prelude.{◌≡◌, List, ◌-◌, ◌*◌, ◌%◌, ◌≤◌, ◌<◌, length, drop};
 ghost use Rattle.def_layout.specs.Sizes.{page_size, most_slots};
 ghost use Rattle.def_layout.specs.Desks.{same_row, same_rows, same_desk};

@@ -1,4 +1,6 @@
 // Held keys and the pending rule, over the pending lines that the log leads to.
+#![tactic(auto)]
+
 ghost use Rattle.std.specs.Prelude.{◌≡◌, ◌<◌, eqb};
 ghost use Rattle.law_bytes.specs.AreaSizes.{HasPages, HasSlots, HasAreas};
 ghost use Rattle.sound_pending.specs.Keys.{from_to, KeysSay, NewestSays};

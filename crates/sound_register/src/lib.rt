@@ -1,4 +1,6 @@
 // "Sound means ..", judged on the lent bytes, and what a call then knows of the register.
+#![tactic(auto)]
+
 ghost use Rattle.std.specs.Prelude.{◌≡◌, false, ◌≤◌};
 ghost use Rattle.def_layout.specs.Sizes.{most_slots};
 ghost use Rattle.law_bytes.specs.AreaSizes.{HasPages, HasSlots, HasAreas};
@@ -18,7 +20,7 @@ use tree_links::lefts_ok;
 
 // What a call knows of a sound register beside its desk: which of the desk's batches have their abort mark, how many updates are pending, and how
 // many pages are free.
-#[derive(Drop)]
+#[derive(Clone, Copy)]
 pub struct Standing {
     pub ok: bool,
     pub marked: [bool; 8],

@@ -1,1 +1,2 @@
 // What each call that passes its checks leaves: see specs/.
+#![tactic(auto)]

@@ -1,1 +1,2 @@
 // What redo meets fits: see specs/.
+#![tactic(auto)]

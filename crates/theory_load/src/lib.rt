@@ -1,1 +1,2 @@
 // A log and all that it leads to: see specs/.
+#![tactic(auto)]

@@ -1,1 +1,2 @@
 // Every number of a history fits its field: see specs/.
+#![tactic(auto)]

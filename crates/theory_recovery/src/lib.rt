@@ -1,1 +1,2 @@
 // DEMAND 3, proved: see specs/.
+#![tactic(auto)]

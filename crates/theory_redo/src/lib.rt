@@ -1,1 +1,2 @@
 // The laws of redo: see specs/.
+#![tactic(auto)]

@@ -1,1 +1,2 @@
 // The reserves make an undo find room: see specs/.
+#![tactic(auto)]

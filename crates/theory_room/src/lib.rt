@@ -1,1 +1,2 @@
 // How runs depend on the number of slots: see specs/.
+#![tactic(auto)]

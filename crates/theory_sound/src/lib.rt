@@ -1,1 +1,2 @@
 // What holds of every sound register: see specs/.
+#![tactic(auto)]

@@ -1,1 +1,2 @@
 // The laws of the tree: see specs/.
+#![tactic(auto)]

@@ -1,1 +1,2 @@
 // The laws of updates: see specs/.
+#![tactic(auto)]

@@ -1,4 +1,6 @@
 // Going down to add key k: pages are split and linked on the way, and a full leaf is split.
+#![tactic(auto)]
+
 ghost use Rattle.std.specs.Prelude.{◌≡◌, List, ℕ, ◌≤◌, ◌<◌, leb};
 ghost use Rattle.def_layout.specs.Sizes.{room};
 ghost use Rattle.def_base.specs.Tests.{pick};
@@ -25,14 +27,14 @@ use tree_lookup::entry_for;
 use tree_write::{Run, emit, emit_taking, fresh};
 
 // A run, and the page that it has come to.
-#[derive(Drop)]
+#[derive(Clone, Copy)]
 pub struct At {
     pub run: Run,
     pub page: u32,
 }
 
 // A run, an index page and its child that covers k.
-#[derive(Drop)]
+#[derive(Clone, Copy)]
 pub struct Pair {
     pub run: Run,
     pub parent: u32,

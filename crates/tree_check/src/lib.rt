@@ -1,4 +1,6 @@
 // The tree rules, judged by a walk over the lent bytes: level by level from the root down, and along each level's chain.
+#![tactic(auto)]
+
 ghost use Rattle.std.specs.Prelude.{◌≡◌, true, false, ◌≤◌, ◌<◌, eqb};
 ghost use Rattle.def_layout.specs.Sizes.{most_pages, room};
 ghost use Rattle.def_layout.specs.Entries.{entry_at};
@@ -21,7 +23,7 @@ use def_layout::{Entry, ROOM};
 
 // The place in the level above: the entries of a page there, the first of them that is left, the page after it, and how many pages may
 // follow. An indirect page is due if the last page passed ended below its entry's key.
-#[derive(Drop)]
+#[derive(Clone, Copy)]
 struct Above {
     entries: [Entry; ROOM],
     count: usize,

@@ -1,4 +1,6 @@
 // Left links (02, U5): judged along the leaves, and worked out anew.
+#![tactic(auto)]
+
 ghost use Rattle.std.specs.Prelude.{◌≡◌, true, List, ℕ};
 ghost use Rattle.def_layout.specs.Pages as layout;
 ghost use Rattle.def_model.specs.TreeRules.{first_child, tree_ok};

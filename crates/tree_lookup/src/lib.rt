@@ -1,4 +1,6 @@
 // Fetch, next and previous in the tree, over the lent bytes of the pages: whatever these show, each has an answer.
+#![tactic(auto)]
+
 ghost use Rattle.std.specs.Prelude.{◌≡◌, ◌≤◌};
 ghost use Rattle.def_layout.specs.Sizes.{room};
 ghost use Rattle.def_layout.specs.Entries.{seek, look};
@@ -17,21 +19,21 @@ use codec_page::{Page, left_of, nth_page};
 use def_layout::{Entry, MOST_ENTRIES};
 
 // The value that is filed under a key.
-#[derive(Drop)]
+#[derive(Clone, Copy)]
 pub enum Value {
     Absent,
     Is(u32),
 }
 
 // A slide's key and value.
-#[derive(Drop)]
+#[derive(Clone, Copy)]
 pub enum Slide {
     Absent,
     Is(u32, u32),
 }
 
 // A page of an area, and its number there.
-#[derive(Drop)]
+#[derive(Clone, Copy)]
 pub struct Node {
     pub number: usize,
     pub page: Page,

@@ -1,4 +1,6 @@
 // A run of updates over the lent working areas: one record after another is logged and applied.
+#![tactic(auto)]
+
 ghost use Rattle.std.specs.Prelude.{◌≡◌, false, List, ℕ, suc, ◌*◌, ◌≤◌, ◌<◌, length};
 ghost use Rattle.def_layout.specs.Sizes.{slot_size, most_slots, room};
 ghost use Rattle.def_layout.specs.Pages.{Page};
@@ -21,7 +23,7 @@ use record_pages::{page_at, redo_record};
 
 // Where a run stands: the last record's number, and why it stopped (0: it goes on; else 17 or 18). A number and no `ok`: it is the field of the
 // definition's own run, `def_model/Update: Run.stop`, which a stopped run carries on.
-#[derive(Drop)]
+#[derive(Clone, Copy)]
 pub struct Run {
     pub logged: u32,
     pub stop: u32,

@@ -1,5 +1,7 @@
 // The codecs, run on good and bad bytes. Each line says what was tried; of a page, whether page 5 of 16, or the map, keeps the layout; of a log
 // slot, what stands there, and whether it keeps its row.
+#![tactic(auto)]
+
 ghost use Rattle.std.specs.Prelude.{◌≡◌, set};
 
 use codec_page::Page;
