@@ -16,7 +16,7 @@ WORD = r"[^\s(){}\[\].,;:\"`λ]+"
 
 
 def norm(x):
-    return re.sub(r"[_-]", "-", x).lower()
+    return re.sub(r"^is(?=place-)", "", re.sub(r"[_-]", "-", x).lower())
 
 
 def blocks(text):
@@ -174,6 +174,9 @@ class Turn:
 
 def ranges(text):
     """What is past a range of numbers is found by omega, which reads the facts that have no name of the source."""
+    for m in list(re.finditer(r"\n? *let (\w+) = \w+\.in_default\S*\.rest in", text)):
+        text = text.replace(m.group(0), "")
+        text = re.sub(r"(?<![\w.])" + m.group(1) + r"(\.\d+)+", "(omega arith)", text)
     if not re.search(r"\(past ", text):
         return text
     out, i = "", 0

@@ -2,7 +2,7 @@
 #![tactic(auto)]
 
 ghost use Rattle.std.specs.Prelude.{◌≡◌, ◌≤◌, length};
-ghost use Rattle.area_lengths.specs.Lent.{at_entry, at_exit};
+ghost use Rattle.area_lengths.specs.Lent.{lent};
 ghost use Rattle.face_console.specs.Hearing.{hear};
 ghost use Rattle.face_console.specs.Hears.{stands};
 
@@ -25,7 +25,7 @@ fn hear_read(
     text: &[u8],
 ) -> Heard
     requires { length text.now ≤ 512 }
-    ensures { stands (at_exit wp sp wl sl) result ≡ (hear text.now (stands (at_entry wp sp wl sl) h)).left }
+    ensures { stands (lent wp.new sp.new wl.new sl.new) result ≡ (hear text.now (stands (lent wp.old sp.old wl.old sl.old) h)).left }
 {
     let mut out = [0u8; PRINTED];
     let y = hear_bytes(wp, sp, wl, sl, h, text, &mut out);
