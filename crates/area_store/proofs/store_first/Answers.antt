@@ -25,8 +25,8 @@ loop-k-preserved c =
     let l = c.loop-k in
     let o = c.store_one in (
       search rules,
-      o.auto.0 ∙ l.invariant.1,
-      o.auto.1.0 ∙ l.invariant.2,
+      o.auto.sp ∙ l.invariant.1,
+      o.auto.sl ∙ l.invariant.2,
       λ ts h. one_more a.s l.k a.wp.now a.wl.now ts h (omega (arith, c.loop-k-test.true, c.fewer-n.ensures)) _ _ _ (l.invariant.3 ts h) (o.ensures ts h),
     )
 
