@@ -55,7 +55,7 @@ start_history o n least most = record { least = least; lawful = here; begins = t
 
 pub lawful_first : {m : ℕ} {pages : List Page} {ls ls' : List (List Node)} (a b : List Rec) → Lawful m pages ls (a ++ b) ls' → (ls₁ : List (List Node)) × Lawful m pages ls a ls₁
 lawful_first {ls = ls} [] b h = (ls, here)
-lawful_first (r ∷ a) b (next k h) = let (l, x) = lawful_first a b h in (l, next k x)
+lawful_first {m} (r ∷ a) b (next k h) = let (l, x) = lawful_first {m = suc m} a b h in (l, next k x)
 
 names_grow : (n m : ℕ) (log : List Rec) → n ≤ m → NamesOk n log → NamesOk m log
 unfolding NamesOk names_pages
