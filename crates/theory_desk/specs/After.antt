@@ -10,7 +10,7 @@ use Rattle.def_layout.specs.declared.Row.{Row}
 use Rattle.def_layout.specs.declared.Desk.{Desk}
 use Rattle.def_layout.specs.Numbers.{tab}
 use Rattle.def_layout.specs.Desks.{no_row, row_at, eight_rows}
-use Rattle.def_layout.specs.Records.{Rec, Kind, begin, insert, delete, commit, split, link, unlink, merge, redistribute, raise, lower, batch_row, data_row}
+use Rattle.def_layout.specs.Records.{Rec, Kind, begin, insert, delete, commit, batch_row, data_row}
 use Rattle.def_model.specs.Batches.{Line, Batch, next_undo, change_batch, drop_batch, written, tell, open_batches, chain_ok, row_of, desk_of}
 use Rattle.theory_update.specs.Run.Keeps.{Structural, splitting, linking, unlinking, merging, sharing, raising, lowering}
 use Rattle.theory_update.specs.Run.Wrote.{AllStructural}
