@@ -446,7 +446,7 @@ def kept(uses, text):
             it = it.strip()
             local = it.split(" as ")[-1].strip()
             parts = [x for x in local.split("◌") if x]
-            if local in toks or ("◌" in local and all(x in text for x in parts)):
+            if local in toks or (local == "[]" and "[]" in text) or ("◌" in local and all(x in text for x in parts)):
                 names.append(it)
         if names:
             out.append(f"use {m.group(1)}.{{{', '.join(names)}}}")
