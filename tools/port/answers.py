@@ -135,9 +135,11 @@ class Turn:
             rest2 = [renames[norm(rest2[0])]] + rest2[1:]
         if len(rest2) > 1 and rest2[0] == "new" and rest2[1].isdigit():
             params = self.entry["params"].get(callee or "", [])
-            k = int(rest2[1])
-            if k < len(params):
-                rest2 = ["new", params[k]] + rest2[2:]
+            k = 1
+            while k < len(rest2) and rest2[k] == "1":
+                k += 1
+            if k - 1 < len(params):
+                rest2 = ["new", params[k - 1]] + rest2[k + 1:]
             else:
                 self.said.append(f"new.{k} of {rest[0]}")
         return ".".join([var, new] + rest2)
@@ -157,10 +159,10 @@ class Turn:
                 if fn == step:
                     callee = cl
             params = self.entry["params"].get(callee or "", [])
-            pre = r"(?<![\w.'-])" + re.escape(alias) + (r"\." if new else r"\.new\.") + r"(\d+)"
+            pre = r"(?<![\w.'-])" + re.escape(alias) + (r"\." if new else r"\.new\.") + r"((?:1\.)*)0(?!\w)"
 
             def number(k, params=params, new=new, alias=alias):
-                i = int(k.group(1))
+                i = k.group(1).count("1")
                 if i < len(params):
                     return alias + (".new." if not new else ".") + params[i]
                 return k.group(0)

@@ -17,31 +17,25 @@ returns-then-kind-gt3 c = (search rules, (λ e. refl), λ e. clash (sym e ∙ c.
 pub returns-then-a-n : goal.returns-then-a-n
 returns-then-a-n c = (search rules, (λ e. refl), λ e. clash (sym e ∙ c.not_yet-then-a-n.ensures.0))
 
--- What is known where the page's number is read.
-
-slide : (c : tie.After-get323)
-    → Slide c.before.before.before.before.before.before.before.before.before.before.before.args.n c.before.before.before.before.before.before.before.before.before.before.before.args.m c.before.before.before.before.before.before.before.before.before.before.before.args.i c.before.before.before.before.before.before.before.before.before.before.before.args.pages.now c.before.before.before.before.before.before.before.before.before.before.before.args.log.now
-    (c.before.before.before.before.before.before.before.get32.result / 268435456) (c.before.before.before.before.before.before.get322.result / 4194304) c.get323.result
-slide c =
-    let a = c.before.before.before.before.before.before.before.before.before.before.before.args in
-    record {
-      slot = c.before.before.before.before.before.before.before.before.before.before.before.requires.1;
-      kind_told = ap (λ (w : ℕ). w / 268435456) (as_part slot_size a.i a.log.now 0 c.before.before.before.before.before.before.before.get32.ensures);
-      low = search rules;
-      high = search rules;
-      page_told = ap (λ (w : ℕ). w / 4194304) (as_part slot_size a.i a.log.now 16 c.before.before.before.before.before.before.get322.ensures);
-      page = search rules;
-      number = as_part page_size (c.before.before.before.before.before.before.get322.result / 4194304) a.pages.now 8 c.get323.ensures;
-    }
-
 pub returns-then-get32-own : goal.returns-then-get32-own
 returns-then-get32-own c =
-    let a = c.args in (
+    let a = c.args in
+    let s : Slide a.n a.m a.i a.pages.now a.log.now (c.get32-kind.result / 268435456) (c.get32.result / 4194304) c.get32-2.result =
+    record {
+      slot = c.requires.1;
+      kind_told = ap (λ (w : ℕ). w / 268435456) (as_part slot_size a.i a.log.now 0 c.get32-kind.ensures);
+      low = search rules;
+      high = search rules;
+      page_told = ap (λ (w : ℕ). w / 4194304) (as_part slot_size a.i a.log.now 16 c.get32.ensures);
+      page = search rules;
+      number = as_part page_size (c.get32.result / 4194304) a.pages.now 8 c.get32-2.ensures;
+    }
+    in (
       search rules,
       (λ e. clash (sym c.at_once.ensures.0 ∙ e)),
       λ e.
           subst (Done a.n a.m a.pages.now a.log.now a.i a.pages.now) (sym c.at_once.ensures.1)
-          (slide_higher (slide c) (search rules)),
+          (slide_higher s (search rules)),
     )
 
 pub returns-then-not-slide_made : goal.returns-then-not-slide_made
@@ -54,12 +48,23 @@ returns-then-not-slide_made c =
 
 pub returns : goal.returns
 returns c =
-    let a = c.args in (
+    let a = c.args in
+    let s : Slide a.n a.m a.i a.pages.now a.log.now (c.get32-kind.result / 268435456) (c.get32.result / 4194304) c.get32-2.result =
+    record {
+      slot = c.requires.1;
+      kind_told = ap (λ (w : ℕ). w / 268435456) (as_part slot_size a.i a.log.now 0 c.get32-kind.ensures);
+      low = search rules;
+      high = search rules;
+      page_told = ap (λ (w : ℕ). w / 4194304) (as_part slot_size a.i a.log.now 16 c.get32.ensures);
+      page = search rules;
+      number = as_part page_size (c.get32.result / 4194304) a.pages.now 8 c.get32-2.ensures;
+    }
+    in (
       search rules,
       (λ e. clash (sym c.at_once-2.ensures.0 ∙ e)),
       λ e.
           subst (Done a.n a.m a.pages.now a.log.now a.i _) (sym c.at_once-2.ensures.1)
-          (slide_done (slide c) _ _ _ _ (search rules)
+          (slide_done s _ _ _ _ (search rules)
           (as_part slot_size a.i a.log.now 20 c.get32-key.ensures) (as_part slot_size a.i a.log.now 24 c.get32-second.ensures)
           c.slide_made.ensures (not-false _ c.if-not-slide_made.false-raw)),
     )
