@@ -142,6 +142,13 @@ class Turn:
                 rest2 = ["new", params[k - 1]] + rest2[k + 1:]
             else:
                 self.said.append(f"new.{k} of {rest[0]}")
+        if len(rest2) > 1 and rest2[0] == "auto" and re.match(r"[01]$", rest2[1]):
+            k = 1
+            while k < len(rest2) and rest2[k] == "1":
+                k += 1
+            lent = lent_by(callee)
+            if k - 1 < len(lent):
+                rest2 = ["auto", lent[k - 1]] + rest2[k + 1:]
         return ".".join([var, new] + rest2)
 
     def body(self, lines, var="c"):
@@ -168,6 +175,9 @@ class Turn:
                 return k.group(0)
 
             text = re.sub(pre, number, text)
+            if not new and lent_by(callee):
+                text = re.sub(r"(?<![\w.'-])" + re.escape(alias) + r"\.auto\.((?:1\.)*)0(?!\w)", lambda k, alias=alias, lent=lent_by(callee): alias + ".auto." + lent[k.group(1).count("1")] if k.group(1).count("1") < len(lent) else k.group(0), text)
+                text = re.sub(r"(?<![\w.'-])" + re.escape(alias) + r"\.auto\.1(?![\w.])", lambda k, alias=alias, lent=lent_by(callee): alias + ".auto." + lent[1] if 1 < len(lent) else k.group(0), text)
         text = ranges(text)
         text = re.sub(r"simp length-map at " + re.escape(var) + r"\.well_formed[.0-9]*", "search rules", text)
         text = re.sub(r"no_(slide|value) " + re.escape(var) + r"\.[\w-]+\.result " + re.escape(var) + r"\.in_default\.in_default-own\.keys2", lambda m: f"ap {m.group(1)}_of {var}.in_default.is", text)
@@ -240,8 +250,19 @@ def rename(text, env):
 env_types = {"ℕ", "Bool", "List", ","}
 
 
-def parameters(folder, path):
-    """The names of a function's parameters, from its source."""
+CRATES = "crates"
+
+
+def lent_by(callee):
+    """The parameters of a function that are slices lent by &mut."""
+    if not callee:
+        return []
+    parts = callee.split("::")
+    return [x for x in parameters(os.path.join(CRATES, parts[0]), ".".join(parts[1:]), True)]
+
+
+def parameters(folder, path, lent=False):
+    """The names of a function's parameters, from its source; or of those alone that are slices lent by &mut."""
     parts = path.split(".")
     files = [os.path.join(d, f) for d, _, fs in os.walk(os.path.join(folder, "src")) for f in fs if f.endswith(".rt")]
     files.sort(key=lambda p: (os.path.basename(p)[:-3] not in parts[:-1], p))
@@ -261,7 +282,7 @@ def parameters(folder, path):
                 else:
                     cur += ch
             out.append(cur)
-            return [re.sub(r"^mut ", "", x.split(":")[0].strip()) for x in out if x.strip()]
+            return [re.sub(r"^mut ", "", x.split(":")[0].strip()) for x in out if x.strip() and (not lent or "&mut [" in x)]
     return []
 
 
@@ -403,6 +424,8 @@ def main():
     folder = sys.argv[2].rstrip("/")
     only = sys.argv[3:]
     crate = os.path.basename(folder)
+    global CRATES
+    CRATES = os.path.dirname(folder) or "."
     for d, dirs, files in sorted(os.walk(os.path.join(folder, "proofs"))):
         if "Proof.antt" not in files:
             continue
