@@ -20,7 +20,7 @@ step-a-requires c =
     let p = c.requires in
     let i = c.loop-l.invariant in
     let d = c.direct-d.auto in
-    (omega (arith, p, i.0, d.0), p.1, omega (arith, p, i.1, d.1.0), p.3)
+    (omega (arith, p, i.0, d.wp), p.1, omega (arith, p, i.1, d.wl), p.3)
 
 pub loop-l-preserved : goal.loop-l-preserved
 loop-l-preserved c =

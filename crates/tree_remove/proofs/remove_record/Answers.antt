@@ -11,7 +11,7 @@ emit-requires c =
     let p = c.requires in
     let d = c.descend_remove-a.auto in
     let r = c.raise_root-u.auto in
-    ((omega (arith, p.0, r.0, d.0), p.0.1, omega (arith, p.0, r.1.0, d.1.0), p.0.3), c.data_row-r.ensures.1)
+    ((omega (arith, p.0, r.wp, d.wp), p.0.1, omega (arith, p.0, r.wl, d.wl), p.0.3), c.data_row-r.ensures.1)
 
 pub returns : goal.returns
 returns c s h =
