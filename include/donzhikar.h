@@ -4,7 +4,7 @@
  * the slides of one case: what it inserts and deletes stays once it is committed, and is taken back if it is aborted, or if the power
  * fails before its commit is stored. After a power failure one call, donzhikar_restart, brings the register back.
  *
- * Link with the library that `rt staticlib donzhikar` makes, target/staticlib/libdonzhikar.a; `./install PREFIX` puts it, as libdonzhikar.a, this
+ * Link with the library that `./library` makes, target/staticlib/libdonzhikar.a; `./install PREFIX` puts it, as libdonzhikar.a, this
  * header and a pkg-config file below PREFIX, and then `cc program.c $(pkg-config --cflags --libs donzhikar)` is all. It needs no other
  * library but the C library.
  *

@@ -6,7 +6,7 @@ library=${DONZHIKAR_LIBRARY:-target/staticlib/libdonzhikar.a}
 # library_made LOG: makes the library where none is named. What that says goes to the file, and its end is shown where it fails.
 library_made() {
     [ -z "${DONZHIKAR_LIBRARY:-}" ] || return 0
-    rt staticlib donzhikar >"$1" 2>&1 || {
+    ./library >"$1" 2>&1 || {
         tail -n 20 "$1" >&2
         return 1
     }

@@ -7,7 +7,7 @@ ghost use Rattle.std.specs.Prelude.{◌≡◌, set};
 use codec_page::Page;
 use codec_slot::{Header, Slot};
 use def_layout::{Entry, PAGE_SIZE, ROOM, SLOT_SIZE};
-use libc::STDOUT_FILENO;
+use std::io;
 
 // Byte i becomes v, where there is one.
 fn poke(b: &mut [u8], i: usize, v: u8)
@@ -20,13 +20,9 @@ fn poke(b: &mut [u8], i: usize, v: u8)
 
 // ---- pages
 
-fn say_layout(what: &[u8], yes: bool) {
-    io::write_all(STDOUT_FILENO, what);
-    if yes {
-        io::write_all(STDOUT_FILENO, b": yes\n");
-    } else {
-        io::write_all(STDOUT_FILENO, b": no\n");
-    }
+fn say_layout(rt: &impl Print, what: &str, yes: bool) -> io::Result<()> {
+    let answer = if yes { "yes" } else { "no" };
+    println!(rt; "{what}: {answer}")
 }
 
 fn entries(key: u32, val: u32) -> [Entry; ROOM] {
@@ -73,100 +69,93 @@ fn read_back(x: Page) -> bool {
     y.entries[0].val == x.entries[0].val
 }
 
-fn leaves() {
+fn leaves(rt: &impl Print) -> io::Result<()> {
     let leaf = node(1, 0, 1, 33, 5, entries(10, 4294967295));
-    say_layout(b"a leaf", as_written(leaf, 16, 5));
-    say_layout(b"read back", read_back(leaf));
-    say_layout(b"at another place", as_written(leaf, 16, 6));
-    say_layout(b"a spare bit", judged(leaf, 3, 1, 16, 5));
-    say_layout(b"an unused entry", judged(leaf, 127, 1, 16, 5));
+    say_layout(rt, "a leaf", as_written(leaf, 16, 5))?;
+    say_layout(rt, "read back", read_back(leaf))?;
+    say_layout(rt, "at another place", as_written(leaf, 16, 6))?;
+    say_layout(rt, "a spare bit", judged(leaf, 3, 1, 16, 5))?;
+    say_layout(rt, "an unused entry", judged(leaf, 127, 1, 16, 5))?;
     say_layout(
-        b"fifteen entries",
+        rt,
+        "fifteen entries",
         as_written(node(1, 0, 15, 33, 5, entries(10, 1)), 16, 5),
-    );
+    )?;
     say_layout(
-        b"a leaf above level 0",
+        rt,
+        "a leaf above level 0",
         as_written(node(1, 1, 1, 33, 5, entries(10, 1)), 16, 5),
-    );
+    )
 }
 
-fn others() {
+fn others(rt: &impl Print) -> io::Result<()> {
     say_layout(
-        b"an index",
+        rt,
+        "an index",
         as_written(node(2, 1, 1, 33, 5, entries(10, 1023)), 16, 5),
-    );
+    )?;
     say_layout(
-        b"a child of eleven bits",
+        rt,
+        "a child of eleven bits",
         as_written(node(2, 1, 1, 33, 5, entries(10, 1024)), 16, 5),
-    );
+    )?;
     say_layout(
-        b"an index of level 0",
+        rt,
+        "an index of level 0",
         as_written(node(2, 0, 1, 33, 5, entries(10, 1)), 16, 5),
-    );
+    )?;
     say_layout(
-        b"never used",
+        rt,
+        "never used",
         as_written(node(0, 0, 0, 0, 0, entries(0, 0)), 16, 5),
-    );
+    )?;
     say_layout(
-        b"free again",
+        rt,
+        "free again",
         as_written(node(0, 0, 0, 9, 5, entries(0, 0)), 16, 5),
-    );
+    )?;
     say_layout(
-        b"free with a number and no place",
+        rt,
+        "free with a number and no place",
         as_written(node(0, 0, 0, 9, 0, entries(0, 0)), 16, 5),
-    );
+    )
 }
 
-fn maps() {
+fn maps(rt: &impl Print) -> io::Result<()> {
     let es = entries(3221291008, 0);
     let first = node(3, 0, 0, 0, 0, es);
-    say_layout(b"the map", as_written(first, 16, 0));
-    say_layout(b"the map at another place", as_written(first, 16, 5));
-    say_layout(b"a mark past the last page", as_written(first, 15, 0));
-    say_layout(b"three marks", codec_map::count_used(es, 16) == 3);
+    say_layout(rt, "the map", as_written(first, 16, 0))?;
+    say_layout(rt, "the map at another place", as_written(first, 16, 5))?;
+    say_layout(rt, "a mark past the last page", as_written(first, 15, 0))?;
+    say_layout(rt, "three marks", codec_map::count_used(es, 16) == 3)?;
     say_layout(
-        b"14 is the highest free",
+        rt,
+        "14 is the highest free",
         codec_map::highest_free(es, 16) == 14,
-    );
+    )?;
     say_layout(
-        b"none is free in full words",
+        rt,
+        "none is free in full words",
         codec_map::highest_free(entries(4294967295, 4294967295), 64) == 0,
-    );
+    )
 }
 
 // ---- slots
 
-fn say_row(what: &[u8], s: Slot) {
-    io::write_all(STDOUT_FILENO, what);
+fn say_row(rt: &impl Print, what: &str, s: Slot) -> io::Result<()> {
     let header = s.header;
-    match header {
-        Header::Full {
-            kind: _,
-            count: _,
-            level: _,
-            own: _,
-            batch: _,
-            previous: _,
-            a: _,
-            b: _,
-            c: _,
-            key: _,
-            second: _,
-            right: _,
-        } => {
+    let stands = match header {
+        Header::Full { .. } => {
             if record_check::row_ok(s) {
-                io::write_all(STDOUT_FILENO, b": keeps its row\n");
+                "keeps its row"
             } else {
-                io::write_all(STDOUT_FILENO, b": breaks its row\n");
+                "breaks its row"
             }
         }
-        Header::Empty => {
-            io::write_all(STDOUT_FILENO, b": empty\n");
-        }
-        Header::Broken => {
-            io::write_all(STDOUT_FILENO, b": no record\n");
-        }
-    }
+        Header::Empty => "empty",
+        Header::Broken => "no record",
+    };
+    println!(rt; "{what}: {stands}")
 }
 
 // A record of batch 1 as it is written, with byte i set to v, read again.
@@ -200,22 +189,26 @@ fn nothing(i: usize, v: u8) -> Slot {
     codec_slot::read_slot(&area)
 }
 
-fn slots() {
-    say_row(b"zeros", nothing(144, 0));
-    say_row(b"a number and no kind", nothing(7, 1));
-    say_row(b"a begin", again(1, 1, 0, 0, 144, 0));
-    say_row(b"a begin of another batch", again(1, 2, 0, 0, 144, 0));
-    say_row(b"an insert", again(2, 2, 9, 7, 144, 0));
-    say_row(b"a spare bit", again(2, 2, 9, 7, 3, 1));
-    say_row(b"an unused entry", again(2, 2, 9, 7, 143, 1));
-    say_row(b"an undone insert with a value", again(4, 2, 9, 7, 144, 0));
-    say_row(b"an undone insert", again(4, 2, 9, 0, 144, 0));
-    say_row(b"a split with a batch", again(9, 2, 9, 0, 144, 0));
+fn slots(rt: &impl Print) -> io::Result<()> {
+    say_row(rt, "zeros", nothing(144, 0))?;
+    say_row(rt, "a number and no kind", nothing(7, 1))?;
+    say_row(rt, "a begin", again(1, 1, 0, 0, 144, 0))?;
+    say_row(rt, "a begin of another batch", again(1, 2, 0, 0, 144, 0))?;
+    say_row(rt, "an insert", again(2, 2, 9, 7, 144, 0))?;
+    say_row(rt, "a spare bit", again(2, 2, 9, 7, 3, 1))?;
+    say_row(rt, "an unused entry", again(2, 2, 9, 7, 143, 1))?;
+    say_row(
+        rt,
+        "an undone insert with a value",
+        again(4, 2, 9, 7, 144, 0),
+    )?;
+    say_row(rt, "an undone insert", again(4, 2, 9, 0, 144, 0))?;
+    say_row(rt, "a split with a batch", again(9, 2, 9, 0, 144, 0))
 }
 
-fn main() {
-    leaves();
-    others();
-    maps();
-    slots();
+fn main(rt: HostRuntime) -> io::Result<()> {
+    leaves(&rt)?;
+    others(&rt)?;
+    maps(&rt)?;
+    slots(&rt)
 }
