@@ -12,7 +12,7 @@ pub loop-j-init : goal.loop-j-init
 loop-j-init c = (search rules, ap length c.no_rows-r.ensures, tab_none _ _)
 
 pub loop-j-preserved : goal.loop-j-preserved
-loop-j-preserved c = 
+loop-j-preserved c =
     let l = c.loop-j in
     (search rules, l.invariant.1, tab_step l.j _ _ _ _ (search rules) l.invariant.2 c.keep.ensures)
 

@@ -11,21 +11,21 @@ pub loop-i-init : goal.loop-i-init
 loop-i-init c = (search rules, search rules)
 
 pub returns-then-rows-i : goal.returns-then-rows-i
-returns-then-rows-i c = 
+returns-then-rows-i c =
     let a = c.args in
     let l = c.loop-i in
     let h : length a.rows ≡ 8 = search rules in
     (sym (place_here a.rows a.b l.i _ (omega arith) c.if-rows-i.true l.invariant.1), omega arith)
 
 pub loop-i-preserved : goal.loop-i-preserved
-loop-i-preserved c = 
+loop-i-preserved c =
     let a = c.args in
     let l = c.loop-i in
     let h : length a.rows ≡ 8 = search rules in
     (search rules, place_more a.rows a.b l.i _ (omega arith) c.if-rows-i.false l.invariant.1)
 
 pub returns : goal.returns
-returns c = 
+returns c =
     let a = c.args in
     let l = c.loop-i in
     let h : length a.rows ≡ 8 = search rules in

@@ -11,19 +11,19 @@ pub loop-i-init : goal.loop-i-init
 loop-i-init c = (search rules, ten_bits_every _)
 
 pub returns-then-es-i-ge1024 : goal.returns-then-es-i-ge1024
-returns-then-es-i-ge1024 c = 
+returns-then-es-i-ge1024 c =
     let a = c.args in
     let l = c.loop-i in
     sym (l.invariant.1 ∙ every_off _ a.es a.n l.i (omega arith) (le-ltb _ _ c.if-es-i-ge1024.true))
 
 pub loop-i-preserved : goal.loop-i-preserved
-loop-i-preserved c = 
+loop-i-preserved c =
     let a = c.args in
     let l = c.loop-i in
     (search rules, l.invariant.1 ∙ every_more _ a.es a.n l.i (omega arith) (lt-ltb _ _ c.if-es-i-ge1024.false))
 
 pub returns : goal.returns
-returns c = 
+returns c =
     let a = c.args in
     let l = c.loop-i in
     sym (l.invariant.1 ∙ every_none _ a.es a.n l.i (omega arith))

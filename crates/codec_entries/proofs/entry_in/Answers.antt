@@ -4,7 +4,7 @@ use Rattle.law_bytes.specs.EntryBytes.{used_in, used_past}
 use Rattle.codec_entries.proofs.entry_in.Goals as goal
 
 pub returns-then-i-n : goal.returns-then-i-n
-returns-then-i-n c = 
+returns-then-i-n c =
     let a = c.args in
     c.nth.ensures ∙ sym (used_in a.n a.i a.es c.if-i-n.true)
 

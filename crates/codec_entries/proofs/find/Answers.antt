@@ -11,19 +11,19 @@ pub loop-place-init : goal.loop-place-init
 loop-place-init c = (search rules, search rules)
 
 pub returns-then-es-place : goal.returns-then-es-place
-returns-then-es-place c = 
+returns-then-es-place c =
     let a = c.args in
     let l = c.loop-place in
     (sym (find_here a.es a.n a.k l.place _ (omega arith) c.if-es-place.true l.invariant.1), omega arith)
 
 pub loop-place-preserved : goal.loop-place-preserved
-loop-place-preserved c = 
+loop-place-preserved c =
     let a = c.args in
     let l = c.loop-place in
     (search rules, find_more a.es a.n a.k l.place _ (omega arith) c.if-es-place.false l.invariant.1)
 
 pub returns : goal.returns
-returns c = 
+returns c =
     let a = c.args in
     let l = c.loop-place in
     (sym (find_none a.es a.n a.k l.place _ (omega arith) l.invariant.1), omega arith)

@@ -10,7 +10,7 @@ pub returns-then-i-eq-ROOM : goal.returns-then-i-eq-ROOM
 returns-then-i-eq-ROOM c = let a = c.args in inserted_none a.es a.es a.n a.i a.e (omega arith) (omega arith) c.if-i-eq-ROOM.true
 
 pub returns : goal.returns
-returns c = 
+returns c =
     let a = c.args in
     let h : length a.es ≡ 14 = search rules in
     inserted a.es _ a.n a.i a.e h (omega arith) (omega arith) c.spliced.ensures

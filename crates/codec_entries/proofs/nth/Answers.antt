@@ -7,7 +7,7 @@ use Rattle.def_layout.specs.Entries.{no_entry}
 use Rattle.codec_entries.proofs.nth.Goals as goal
 
 pub returns : goal.returns
-returns c = 
+returns c =
     let a = c.args in
     let h : length a.es ≡ 14 = search rules in
     sym (get_or-eq_default a.es no_entry {n = a.k} (omega arith))

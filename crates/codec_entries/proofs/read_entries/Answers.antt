@@ -11,11 +11,11 @@ pub loop-i-init : goal.loop-i-init
 loop-i-init c = (search rules, tab_none _ _)
 
 pub loop-i-preserved : goal.loop-i-preserved
-loop-i-preserved c = 
+loop-i-preserved c =
     let l = c.loop-i in
     (search rules, tab_step l.i _ _ _ _ (search rules) l.invariant.1 c.read_entry.ensures)
 
 pub returns : goal.returns
-returns c = 
+returns c =
     let l = c.loop-i in
     tab_end 14 l.i _ _ _ refl (omega arith) l.invariant.1

@@ -14,7 +14,7 @@ pub loop-i-init : goal.loop-i-init
 loop-i-init c = (search rules, refl, chunks_none _ _ _)
 
 pub loop-i-preserved-then-i-n : goal.loop-i-preserved-then-i-n
-loop-i-preserved-then-i-n c = 
+loop-i-preserved-then-i-n c =
     let l = c.loop-i in
     let a = c.args in (
       search rules,
@@ -25,7 +25,7 @@ loop-i-preserved-then-i-n c =
     )
 
 pub loop-i-preserved : goal.loop-i-preserved
-loop-i-preserved c = 
+loop-i-preserved c =
     let l = c.loop-i in
     let a = c.args in (
       search rules,
@@ -37,7 +37,7 @@ loop-i-preserved c =
 
 pub returns : goal.returns
 unfolding entries_bytes
-returns c = 
+returns c =
     let l = c.loop-i in
     let a = c.args in
     let e : l.i ≡ 14 = omega arith in
