@@ -11,7 +11,7 @@ ghost use Rattle.def_model.specs.Loading.{columns, loaded_count, loaded_pages};
 ghost use Rattle.def_model.specs.OnBytes.{pages_bytes, log_bytes};
 ghost use Rattle.codec_page.specs.Typed.{typed};
 ghost use Rattle.area_load.specs.Columns.{Columns};
-ghost use Rattle.area_lengths.specs.Lent.{at_entry, at_exit, Sized};
+ghost use Rattle.area_lengths.specs.Lent.{lent, Sized};
 ghost use Rattle.area_store.specs.Lists.{Leads};
 ghost use Rattle.area_format.specs.Started.{Started, all_parts};
 
@@ -69,7 +69,7 @@ fn load_work(wp: &mut [u8], wl: &mut [u8], keys: &[u32], values: &[u32])
 fn store_started(sp: &mut [u8], sl: &mut [u8], wp: &[u8], wl: &[u8], budget: usize)
     requires { Sized wp.now sp.old wl.now sl.old }
     ensures { Leads (all_parts (length wp.now / page_size) (length wl.now / slot_size)) budget wp.now wl.now
-        (at_entry wp sp wl sl) (at_exit wp sp wl sl) }
+        (lent wp.now sp.old wl.now sl.old) (lent wp.now sp.new wl.now sl.new) }
 {
     let pages = Span {
         pages: true,
@@ -99,7 +99,7 @@ pub fn load(
     budget: usize,
 )
     requires { Sized wp.old sp.old wl.old sl.old × Columns keys.now values.now × (loaded_count (length keys.now) < length wp.old / page_size) }
-    ensures { Started (columns keys.now values.now) budget (at_entry wp sp wl sl) (at_exit wp sp wl sl) }
+    ensures { Started (columns keys.now values.now) budget (lent wp.old sp.old wl.old sl.old) (lent wp.new sp.new wl.new sl.new) }
 {
     load_work(wp, wl, keys, values);
     store_started(sp, sl, wp, wl, budget);
@@ -108,7 +108,7 @@ pub fn load(
 // 01's format, which is a loading of no records.
 pub fn format(wp: &mut [u8], sp: &mut [u8], wl: &mut [u8], sl: &mut [u8], budget: usize)
     requires { Sized wp.old sp.old wl.old sl.old }
-    ensures { Started [] budget (at_entry wp sp wl sl) (at_exit wp sp wl sl) }
+    ensures { Started [] budget (lent wp.old sp.old wl.old sl.old) (lent wp.new sp.new wl.new sl.new) }
 {
     format_work(wp, wl);
     store_started(sp, sl, wp, wl, budget);

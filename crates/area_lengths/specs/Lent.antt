@@ -2,19 +2,11 @@
 use Rattle.std.specs.Prelude.{◌≡◌, ℕ, ◌*◌, ◌/◌, ◌≤◌, true, List, length}
 use Rattle.std.proofs.Common.{sym, ◌∙◌}
 use Rattle.def_model.specs.OnBytes.{Lent, lengths_ok}
-use Rattle.law_bytes.specs.Slices.{Slice}
 use Rattle.law_areas.specs.Lengths.{Lengths, lengths_said}
 
 -- Working pages, stable pages, working log, stable log: in the order in which calls take them.
 abbrev pub lent : List ℕ → List ℕ → List ℕ → List ℕ → Lent
 lent wp sp wl sl = record { work_pages = wp; stable_pages = sp; work_log = wl; stable_log = sl }
-
--- The lent areas as a function finds them, and as it leaves them.
-abbrev pub at_entry : Slice → Slice → Slice → Slice → Lent
-at_entry wp sp wl sl = lent wp.entry.now sp.entry.now wl.entry.now sl.entry.now
-
-abbrev pub at_exit : Slice → Slice → Slice → Slice → Lent
-at_exit wp sp wl sl = lent wp.exit.now sp.exit.now wl.exit.now sl.exit.now
 
 -- n pages and m slots, as the lengths give them: 16 to 896 pages of 128 bytes, 64 to 16,384 slots of 144, lent twice.
 abbrev pub Sized : List ℕ → List ℕ → List ℕ → List ℕ → Type 0

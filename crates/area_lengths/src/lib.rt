@@ -3,7 +3,7 @@
 
 ghost use Rattle.std.specs.Prelude.{◌≡◌, ◌&&◌, ◌%◌, ◌<◌, leb, eqb};
 ghost use Rattle.def_model.specs.OnBytes.{lengths_ok};
-ghost use Rattle.area_lengths.specs.Lent.{at_entry};
+ghost use Rattle.area_lengths.specs.Lent.{lent};
 
 use def_layout::{LEAST_PAGES, LEAST_SLOTS, MOST_PAGES, MOST_SLOTS, PAGE_SIZE, SLOT_SIZE};
 
@@ -32,7 +32,7 @@ fn measured(bytes: usize, size: usize, least: usize, most: usize) -> bool
 
 // 01: "Pages are 128 bytes, 16 to 896 of them. Log slots are 144 bytes, 64 to 16,384."
 pub fn lengths_ok(wp: &[u8], sp: &[u8], wl: &[u8], sl: &[u8]) -> bool
-    ensures { result ≡ lengths_ok (at_entry wp sp wl sl) }
+    ensures { result ≡ lengths_ok (lent wp.now sp.now wl.now sl.now) }
 {
     if !measured(wp.len(), PAGE_SIZE, SHORTEST_PAGES, LONGEST_PAGES) {
         return false;

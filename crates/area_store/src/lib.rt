@@ -8,7 +8,7 @@ ghost use Rattle.std.specs.Prelude.{◌≡◌, List, ◌+◌, ◌*◌, ◌≤◌
 ghost use Rattle.def_layout.specs.Sizes.{slot_size, most_slots};
 ghost use Rattle.def_model.specs.Areas.{Store};
 ghost use Rattle.def_model.specs.OnBytes.{store_bytes};
-ghost use Rattle.area_lengths.specs.Lent.{at_entry, at_exit};
+ghost use Rattle.area_lengths.specs.Lent.{lent};
 ghost use Rattle.area_store.specs.Lists.{span_place, place, count, Fits, Lists, kth, Leads, Made};
 ghost use Rattle.area_store.specs.Beside.{SlotsLeft};
 
@@ -65,7 +65,7 @@ fn place_of(s: Stores, k: usize) -> Place
 // ONE STORE: the k-th of a list and no other, where the first k are made.
 fn store_one(sp: &mut [u8], sl: &mut [u8], wp: &[u8], wl: &[u8], s: Stores, k: usize)
     requires { (k < count s) × Fits s wp.now sp.old wl.now sl.old × Made s k wp.now sp.old wl.now sl.old }
-    ensures { (ts : List Store) → Lists wp.now wl.now s ts → at_exit wp sp wl sl ≡ store_bytes (kth ts k) (at_entry wp sp wl sl) }
+    ensures { (ts : List Store) → Lists wp.now wl.now s ts → lent wp.now sp.new wl.now sl.new ≡ store_bytes (kth ts k) (lent wp.now sp.old wl.now sl.old) }
 {
     let at = place_of(s, k);
     match at {
@@ -93,7 +93,7 @@ fn fewer(a: usize, b: usize) -> usize
 // THE FIRST STORES of a list, in order: as many as the budget lasts for.
 pub fn store_first(sp: &mut [u8], sl: &mut [u8], wp: &[u8], wl: &[u8], s: Stores, budget: usize)
     requires { Fits s wp.now sp.old wl.now sl.old }
-    ensures { Leads s budget wp.now wl.now (at_entry wp sp wl sl) (at_exit wp sp wl sl) }
+    ensures { Leads s budget wp.now wl.now (lent wp.now sp.old wl.now sl.old) (lent wp.now sp.new wl.now sl.new) }
 {
     let n = fewer(budget, s.first.count + s.rest.count);
     for k in 0..n {

@@ -4,7 +4,7 @@
 ghost use Rattle.std.specs.Prelude.{List, ℕ, ◌≤◌, ◌<◌};
 ghost use Rattle.def_model.specs.CallNames as calls;
 ghost use Rattle.law_bytes.specs.AreaSizes.{HasSlots, HasAreas};
-ghost use Rattle.area_lengths.specs.Lent.{lent, at_entry, at_exit};
+ghost use Rattle.area_lengths.specs.Lent.{lent};
 ghost use Rattle.call_reply.specs.Replies.{Replies};
 ghost use Rattle.call_slides.specs.Given.{Given};
 
@@ -154,7 +154,7 @@ pub fn write_out_in(
 ) -> Reply
     requires { HasAreas n m wp.now wl.now × HasAreas n m sp.old sl.old × (d.stored ≤ d.logged) × (d.logged ≤ m) × (p < n) }
     ensures { (st : Standing) → Given n m wp.now sp.old wl.now sl.old d st
-        → Replies (calls.write_out p) (at_entry wp sp wl sl) d budget result (at_exit wp sp wl sl) }
+        → Replies (calls.write_out p) (lent wp.now sp.old wl.now sl.old) d budget result (lent wp.now sp.new wl.now sl.new) }
 {
     let records = Span {
         pages: false,

@@ -3,7 +3,7 @@
 
 ghost use Rattle.std.specs.Prelude.{◌≡◌, false, ℕ};
 ghost use Rattle.def_model.specs.CallNames as calls;
-ghost use Rattle.area_lengths.specs.Lent.{at_entry, at_exit};
+ghost use Rattle.area_lengths.specs.Lent.{lent};
 ghost use Rattle.call_reply.specs.Replies.{Replies, RepliesWhole};
 ghost use Rattle.call_register.specs.Entered.{Entered};
 
@@ -72,7 +72,7 @@ fn enter(wp: &[u8], sp: &[u8], wl: &[u8], sl: &[u8], d: Desk, p: u32) -> Entry
 
 // A new batch.
 pub fn begin(wp: &[u8], sp: &[u8], wl: &mut [u8], sl: &[u8], d: Desk) -> Reply
-    ensures { (budget : ℕ) → Replies calls.begin (at_entry wp sp wl sl) d budget result (at_exit wp sp wl sl) }
+    ensures { (budget : ℕ) → Replies calls.begin (lent wp.now sp.now wl.old sl.now) d budget result (lent wp.now sp.now wl.new sl.now) }
 {
     let e = enter(wp, sp, wl, sl, d, 0);
     if !e.ok {
@@ -85,7 +85,7 @@ pub fn begin(wp: &[u8], sp: &[u8], wl: &mut [u8], sl: &[u8], d: Desk) -> Reply
 
 // A key's value.
 pub fn fetch(wp: &[u8], sp: &[u8], wl: &[u8], sl: &[u8], d: Desk, b: u32, k: u32) -> Reply
-    ensures { (budget : ℕ) → Replies (calls.fetch b k) (at_entry wp sp wl sl) d budget result (at_exit wp sp wl sl) }
+    ensures { (budget : ℕ) → Replies (calls.fetch b k) (lent wp.now sp.now wl.now sl.now) d budget result (lent wp.now sp.now wl.now sl.now) }
 {
     let e = enter(wp, sp, wl, sl, d, 0);
     if !e.ok {
@@ -97,7 +97,7 @@ pub fn fetch(wp: &[u8], sp: &[u8], wl: &[u8], sl: &[u8], d: Desk, b: u32, k: u32
 
 // The first record above a key.
 pub fn next(wp: &[u8], sp: &[u8], wl: &[u8], sl: &[u8], d: Desk, b: u32, k: u32) -> Reply
-    ensures { (budget : ℕ) → Replies (calls.next b k) (at_entry wp sp wl sl) d budget result (at_exit wp sp wl sl) }
+    ensures { (budget : ℕ) → Replies (calls.next b k) (lent wp.now sp.now wl.now sl.now) d budget result (lent wp.now sp.now wl.now sl.now) }
 {
     let e = enter(wp, sp, wl, sl, d, 0);
     if !e.ok {
@@ -109,7 +109,7 @@ pub fn next(wp: &[u8], sp: &[u8], wl: &[u8], sl: &[u8], d: Desk, b: u32, k: u32)
 
 // The last record below a key.
 pub fn previous(wp: &[u8], sp: &[u8], wl: &[u8], sl: &[u8], d: Desk, b: u32, k: u32) -> Reply
-    ensures { (budget : ℕ) → Replies (calls.previous b k) (at_entry wp sp wl sl) d budget result (at_exit wp sp wl sl) }
+    ensures { (budget : ℕ) → Replies (calls.previous b k) (lent wp.now sp.now wl.now sl.now) d budget result (lent wp.now sp.now wl.now sl.now) }
 {
     let e = enter(wp, sp, wl, sl, d, 0);
     if !e.ok {
@@ -121,7 +121,7 @@ pub fn previous(wp: &[u8], sp: &[u8], wl: &[u8], sl: &[u8], d: Desk, b: u32, k: 
 
 // Refusals 1 and 7: key 0 is refused whatever the areas hold.
 fn refuse_zero(wp: &[u8], sp: &[u8], wl: &[u8], sl: &[u8], d: Desk) -> Reply
-    ensures { (b v budget : ℕ) → Replies (calls.insert b 0 v) (at_entry wp sp wl sl) d budget result (at_entry wp sp wl sl) }
+    ensures { (b v budget : ℕ) → Replies (calls.insert b 0 v) (lent wp.now sp.now wl.now sl.now) d budget result (lent wp.now sp.now wl.now sl.now) }
 {
     if !lengths_ok(wp, sp, wl, sl) {
         return refused(Refusal::Lengths, d);
@@ -140,7 +140,7 @@ pub fn insert(
     k: u32,
     v: u32,
 ) -> Reply
-    ensures { (budget : ℕ) → Replies (calls.insert b k v) (at_entry wp sp wl sl) d budget result (at_exit wp sp wl sl) }
+    ensures { (budget : ℕ) → Replies (calls.insert b k v) (lent wp.old sp.now wl.old sl.now) d budget result (lent wp.new sp.now wl.new sl.now) }
 {
     if k == 0 {
         return refuse_zero(wp, sp, wl, sl, d);
@@ -156,7 +156,7 @@ pub fn insert(
 
 // A slide is taken out.
 pub fn delete(wp: &mut [u8], sp: &[u8], wl: &mut [u8], sl: &[u8], d: Desk, b: u32, k: u32) -> Reply
-    ensures { (budget : ℕ) → Replies (calls.delete b k) (at_entry wp sp wl sl) d budget result (at_exit wp sp wl sl) }
+    ensures { (budget : ℕ) → Replies (calls.delete b k) (lent wp.old sp.now wl.old sl.now) d budget result (lent wp.new sp.now wl.new sl.now) }
 {
     let e = enter(wp, sp, wl, sl, d, 0);
     if !e.ok {
@@ -177,7 +177,7 @@ pub fn commit_within(
     b: u32,
     budget: usize,
 ) -> Reply
-    ensures { Replies (calls.commit b) (at_entry wp sp wl sl) d budget result (at_exit wp sp wl sl) }
+    ensures { Replies (calls.commit b) (lent wp.now sp.now wl.old sl.old) d budget result (lent wp.now sp.now wl.new sl.new) }
 {
     let e = enter(wp, sp, wl, sl, d, 0);
     if !e.ok {
@@ -190,7 +190,7 @@ pub fn commit_within(
 
 // A batch's slides go.
 pub fn abort(wp: &mut [u8], sp: &[u8], wl: &mut [u8], sl: &[u8], d: Desk, b: u32) -> Reply
-    ensures { (budget : ℕ) → Replies (calls.abort b) (at_entry wp sp wl sl) d budget result (at_exit wp sp wl sl) }
+    ensures { (budget : ℕ) → Replies (calls.abort b) (lent wp.old sp.now wl.old sl.now) d budget result (lent wp.new sp.now wl.new sl.now) }
 {
     let e = enter(wp, sp, wl, sl, d, 0);
     if !e.ok {
@@ -203,7 +203,7 @@ pub fn abort(wp: &mut [u8], sp: &[u8], wl: &mut [u8], sl: &[u8], d: Desk, b: u32
 
 // A batch's latest record.
 pub fn mark(wp: &[u8], sp: &[u8], wl: &[u8], sl: &[u8], d: Desk, b: u32) -> Reply
-    ensures { (budget : ℕ) → Replies (calls.take_mark b) (at_entry wp sp wl sl) d budget result (at_exit wp sp wl sl) }
+    ensures { (budget : ℕ) → Replies (calls.take_mark b) (lent wp.now sp.now wl.now sl.now) d budget result (lent wp.now sp.now wl.now sl.now) }
 {
     let e = enter(wp, sp, wl, sl, d, 0);
     if !e.ok {
@@ -223,7 +223,7 @@ pub fn return_to(
     b: u32,
     mark: u32,
 ) -> Reply
-    ensures { (budget : ℕ) → Replies (calls.return_to b mark) (at_entry wp sp wl sl) d budget result (at_exit wp sp wl sl) }
+    ensures { (budget : ℕ) → Replies (calls.return_to b mark) (lent wp.old sp.now wl.old sl.now) d budget result (lent wp.new sp.now wl.new sl.now) }
 {
     let e = enter(wp, sp, wl, sl, d, 0);
     if !e.ok {
@@ -243,7 +243,7 @@ pub fn write_out_within(
     p: u32,
     budget: usize,
 ) -> Reply
-    ensures { Replies (calls.write_out p) (at_entry wp sp wl sl) d budget result (at_exit wp sp wl sl) }
+    ensures { Replies (calls.write_out p) (lent wp.now sp.old wl.now sl.old) d budget result (lent wp.now sp.new wl.now sl.new) }
 {
     let e = enter(wp, sp, wl, sl, d, p);
     if !e.ok {
@@ -256,7 +256,7 @@ pub fn write_out_within(
 // ---- with all their stores
 
 pub fn format(wp: &mut [u8], sp: &mut [u8], wl: &mut [u8], sl: &mut [u8], d: Desk) -> Reply
-    ensures { RepliesWhole calls.format (at_entry wp sp wl sl) d result (at_exit wp sp wl sl) }
+    ensures { RepliesWhole calls.format (lent wp.old sp.old wl.old sl.old) d result (lent wp.new sp.new wl.new sl.new) }
 {
     format_within(wp, sp, wl, sl, d, 20000)
 }
@@ -270,25 +270,25 @@ pub fn load(
     keys: &[u32],
     values: &[u32],
 ) -> Reply
-    ensures { RepliesWhole (calls.load keys.now values.now) (at_entry wp sp wl sl) d result (at_exit wp sp wl sl) }
+    ensures { RepliesWhole (calls.load keys.now values.now) (lent wp.old sp.old wl.old sl.old) d result (lent wp.new sp.new wl.new sl.new) }
 {
     load_within(wp, sp, wl, sl, d, keys, values, 20000)
 }
 
 pub fn commit(wp: &[u8], sp: &[u8], wl: &mut [u8], sl: &mut [u8], d: Desk, b: u32) -> Reply
-    ensures { RepliesWhole (calls.commit b) (at_entry wp sp wl sl) d result (at_exit wp sp wl sl) }
+    ensures { RepliesWhole (calls.commit b) (lent wp.now sp.now wl.old sl.old) d result (lent wp.now sp.now wl.new sl.new) }
 {
     commit_within(wp, sp, wl, sl, d, b, 20000)
 }
 
 pub fn write_out(wp: &[u8], sp: &mut [u8], wl: &[u8], sl: &mut [u8], d: Desk, p: u32) -> Reply
-    ensures { RepliesWhole (calls.write_out p) (at_entry wp sp wl sl) d result (at_exit wp sp wl sl) }
+    ensures { RepliesWhole (calls.write_out p) (lent wp.now sp.old wl.now sl.old) d result (lent wp.now sp.new wl.now sl.new) }
 {
     write_out_within(wp, sp, wl, sl, d, p, 20000)
 }
 
 pub fn restart(wp: &mut [u8], sp: &[u8], wl: &mut [u8], sl: &mut [u8], d: Desk) -> Reply
-    ensures { RepliesWhole calls.restart (at_entry wp sp wl sl) d result (at_exit wp sp wl sl) }
+    ensures { RepliesWhole calls.restart (lent wp.old sp.now wl.old sl.old) d result (lent wp.new sp.now wl.new sl.new) }
 {
     restart_within(wp, sp, wl, sl, d, 20000)
 }

@@ -7,7 +7,7 @@ ghost use Rattle.def_layout.specs.Numbers.{zeros};
 ghost use Rattle.def_model.specs.CallNames as calls;
 ghost use Rattle.def_model.specs.declared.Answer.TheVariants.{Refused};
 ghost use Rattle.law_bytes.specs.AreaSizes.{HasSlots, HasAreas};
-ghost use Rattle.area_lengths.specs.Lent.{at_entry, at_exit};
+ghost use Rattle.area_lengths.specs.Lent.{lent};
 ghost use Rattle.call_reply.specs.Replies.{Replies};
 ghost use Rattle.call_restart.specs.Image.{Judges, Image};
 ghost use Rattle.call_restart.specs.Redoing.{Readies};
@@ -181,7 +181,7 @@ pub fn restart_within(
     d: Desk,
     budget: usize,
 ) -> Reply
-    ensures { Replies calls.restart (at_entry wp sp wl sl) d budget result (at_exit wp sp wl sl) }
+    ensures { Replies calls.restart (lent wp.old sp.now wl.old sl.old) d budget result (lent wp.new sp.now wl.new sl.new) }
 {
     if !lengths_ok(wp, sp, wl, sl) {
         return refused(Refusal::Lengths, idle_desk(0));

@@ -7,7 +7,7 @@ ghost use Rattle.def_layout.specs.Pages.{map_bits};
 ghost use Rattle.def_layout.specs.Sizes.{page_size};
 ghost use Rattle.def_model.specs.Loading.{columns, keys_rise, loaded_count};
 ghost use Rattle.def_model.specs.CallNames as calls;
-ghost use Rattle.area_lengths.specs.Lent.{Sized, at_entry, at_exit};
+ghost use Rattle.area_lengths.specs.Lent.{Sized, lent};
 ghost use Rattle.area_load.specs.Columns.{Columns};
 ghost use Rattle.area_format.specs.Call.{Linked};
 ghost use Rattle.call_reply.specs.Replies.{Replies};
@@ -25,7 +25,7 @@ use tree_links::relink;
 // A register without slides, stored; then the left links of its working pages.
 fn start_empty(wp: &mut [u8], sp: &mut [u8], wl: &mut [u8], sl: &mut [u8], budget: usize)
     requires { Sized wp.old sp.old wl.old sl.old }
-    ensures { Linked [] budget (at_entry wp sp wl sl) (at_exit wp sp wl sl) }
+    ensures { Linked [] budget (lent wp.old sp.old wl.old sl.old) (lent wp.new sp.new wl.new sl.new) }
 {
     format(wp, sp, wl, sl, budget);
     relink(wp, wp.len() / PAGE_SIZE);
@@ -42,7 +42,7 @@ fn start_loaded(
     budget: usize,
 )
     requires { Sized wp.old sp.old wl.old sl.old × Columns keys.now values.now × (loaded_count (length keys.now) < length wp.old / page_size) × (keys_rise 0 keys.now ≡ true) }
-    ensures { Linked (columns keys.now values.now) budget (at_entry wp sp wl sl) (at_exit wp sp wl sl) }
+    ensures { Linked (columns keys.now values.now) budget (lent wp.old sp.old wl.old sl.old) (lent wp.new sp.new wl.new sl.new) }
 {
     load(wp, sp, wl, sl, keys, values, budget);
     relink(wp, wp.len() / PAGE_SIZE);
@@ -57,7 +57,7 @@ pub fn format_within(
     d: Desk,
     budget: usize,
 ) -> Reply
-    ensures { Replies calls.format (at_entry wp sp wl sl) d budget result (at_exit wp sp wl sl) }
+    ensures { Replies calls.format (lent wp.old sp.old wl.old sl.old) d budget result (lent wp.new sp.new wl.new sl.new) }
 {
     let emptied = idle_desk(0);
     if !lengths_ok(wp, sp, wl, sl) {
@@ -143,7 +143,7 @@ pub fn load_within(
     values: &[u32],
     budget: usize,
 ) -> Reply
-    ensures { Replies (calls.load keys.now values.now) (at_entry wp sp wl sl) d budget result (at_exit wp sp wl sl) }
+    ensures { Replies (calls.load keys.now values.now) (lent wp.old sp.old wl.old sl.old) d budget result (lent wp.new sp.new wl.new sl.new) }
 {
     let desk = idle_desk(0);
     if !lengths_ok(wp, sp, wl, sl) {

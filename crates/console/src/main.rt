@@ -4,7 +4,7 @@
 
 ghost use Rattle.std.specs.Prelude.{◌≡◌, ◌≤◌, length, IfOk, OnOk};
 ghost use Rattle.std.specs.Io.KnownBytes.{Appends};
-ghost use Rattle.area_lengths.specs.Lent.{at_entry, at_exit};
+ghost use Rattle.area_lengths.specs.Lent.{lent};
 ghost use Rattle.face_console.specs.Hearing.{hear};
 ghost use Rattle.face_console.specs.Hears.{stands};
 
@@ -29,9 +29,9 @@ fn hear_read<W: Write>(
     output: &mut W,
 ) -> io::Result<Heard>
     requires { length text.now ≤ 512 }
-    ensures stands { IfOk result (λ y. stands (at_exit wp sp wl sl) y ≡ (hear text.now (stands (at_entry wp sp wl sl) h)).left) }
-    ensures areas { at_exit wp sp wl sl ≡ (hear text.now (stands (at_entry wp sp wl sl) h)).left.world.areas }
-    ensures printed { OnOk result (Appends (W.contents output.old) (W.contents output.new) (hear text.now (stands (at_entry wp sp wl sl) h)).text) }
+    ensures stands { IfOk result (λ y. stands (lent wp.new sp.new wl.new sl.new) y ≡ (hear text.now (stands (lent wp.old sp.old wl.old sl.old) h)).left) }
+    ensures areas { lent wp.new sp.new wl.new sl.new ≡ (hear text.now (stands (lent wp.old sp.old wl.old sl.old) h)).left.world.areas }
+    ensures printed { OnOk result (Appends (W.contents output.old) (W.contents output.new) (hear text.now (stands (lent wp.old sp.old wl.old sl.old) h)).text) }
 {
     let mut out = [0u8; PRINTED];
     let y = hear_bytes(wp, sp, wl, sl, h, text, &mut out);

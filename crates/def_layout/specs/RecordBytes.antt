@@ -1,6 +1,6 @@
 -- A log slot's 144 bytes. 01: "kind 4, count 4, level 4, spare 20; own log number 32 (first slot 1); batch 32; previous 32; pages A, B, C of 10
 -- each, spare 2; key 32; second 32; right 10, spare 22; 14 entries. An empty slot is all zero."
-use Rattle.std.specs.Prelude.{ℕ, ◌+◌, ◌-◌, ◌*◌, ◌/◌, ◌%◌, Bool, true, false, List, ◌++◌, length}
+use Rattle.std.specs.Prelude.{ℕ, ◌+◌, ◌*◌, ◌/◌, ◌%◌, Bool, true, false, List, ◌++◌, length}
 use Rattle.def_layout.specs.Sizes.{slot_size}
 use Rattle.def_layout.specs.Numbers.{be32, put32, tab, read_entry, entries_bytes, same_bytes, zeros}
 use Rattle.def_layout.specs.Records.{Rec, kind_of, kind_number}

@@ -1,5 +1,5 @@
 -- The four lent areas, typed, and stores.
-use Rattle.std.specs.Prelude.{ℕ, suc, ◌-◌, Bool, true, false, ◌&&◌, List, [], ◌∷◌, map, take, drop, set, replicate}
+use Rattle.std.specs.Prelude.{ℕ, suc, Bool, true, false, ◌&&◌, List, [], ◌∷◌, map, take, drop, set, replicate}
 use Rattle.def_layout.specs.Pages.{Page, zero_page, layout}
 use Rattle.def_layout.specs.PageBytes.{Block, page, other}
 use Rattle.def_layout.specs.Records.{Rec}

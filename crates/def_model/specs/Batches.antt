@@ -1,5 +1,5 @@
 -- Batches (transactions): 01's batch chain, the open batches that a log says, and the desk that it says.
-use Rattle.std.specs.Prelude.{ℕ, suc, ◌+◌, ◌-◌, Bool, true, false, not, ◌&&◌, List, [], ◌∷◌, ◌++◌, map, length, leb, ltb, eqb}
+use Rattle.std.specs.Prelude.{ℕ, suc, ◌+◌, Bool, true, false, not, ◌&&◌, List, [], ◌∷◌, ◌++◌, map, length, leb, ltb, eqb}
 use Rattle.std.proofs.Math.Option.{Option, none, some}
 use Rattle.def_base.specs.Tests.{pick}
 use Rattle.def_layout.specs.declared.Row.{Row}

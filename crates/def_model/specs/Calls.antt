@@ -1,5 +1,5 @@
 -- The calls: what each answers and leaves, for all typed areas and desks. (Restart has a file of its own.)
-use Rattle.std.specs.Prelude.{ℕ, suc, ◌+◌, ◌-◌, Bool, true, false, not, List, [], ◌∷◌, ◌++◌, map, length, replicate, leb, eqb}
+use Rattle.std.specs.Prelude.{ℕ, suc, ◌-◌, Bool, true, false, not, List, [], ◌∷◌, ◌++◌, map, length, replicate, leb, eqb}
 use Rattle.std.proofs.Math.Option.{Option, none, some}
 use Rattle.def_layout.specs.declared.Entry.{Entry}
 use Rattle.def_layout.specs.declared.Desk.{Desk}

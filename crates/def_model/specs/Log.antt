@@ -1,6 +1,6 @@
 -- The log in its slots: which record stands where. That record n stands in slot n is said here, and by `Update: logged`, which adds a record at the
 -- end; all else asks `slot_of` and `log_area`.
-use Rattle.std.specs.Prelude.{ℕ, zero, suc, ◌+◌, ◌-◌, Bool, true, false, ◌&&◌, List, [], ◌∷◌, ◌++◌, length, replicate, get_or, eqb}
+use Rattle.std.specs.Prelude.{ℕ, zero, suc, ◌-◌, Bool, true, false, ◌&&◌, List, [], ◌∷◌, ◌++◌, length, replicate, get_or, eqb}
 use Rattle.def_layout.specs.Rows.{row, names_pages}
 use Rattle.def_layout.specs.Records.{Rec, begin, batch_row}
 use Rattle.def_layout.specs.RecordBytes.{Slot, empty, full, other}

@@ -1,6 +1,6 @@
 -- DEMAND 3, as one type. "Assume each store whole or absent, none there without all those before it, a finished call's all there": a call's
 -- stores are a list, of which a cut leaves a first part. Everything named here stands in 01's own definitions, in Events or in Book.
-use Rattle.std.specs.Prelude.{ℕ, ◌+◌, ◌-◌, ◌*◌, ◌≤◌, ◌<◌, ◌≡◌, ◌≢◌, ◌⊎◌, Bool, true, ◌&&◌, List, ◌∷◌, ◌++◌, length, eqb}
+use Rattle.std.specs.Prelude.{ℕ, ◌-◌, ◌*◌, ◌≤◌, ◌<◌, ◌≡◌, ◌≢◌, ◌⊎◌, Bool, true, ◌&&◌, List, ◌∷◌, ◌++◌, length, eqb}
 use Rattle.def_base.specs.Tests.{any}
 use Rattle.def_layout.specs.declared.Desk.{Desk}
 use Rattle.def_layout.specs.Records.{Rec, commit, kind_number}

@@ -1,9 +1,9 @@
 -- STEPPING BACKWARDS (02, U5): previous, who holds what, and the left links after each change of the tree.
-use Rattle.std.specs.Prelude.{ℕ, suc, ◌+◌, ◌*◌, List, [], ◌∷◌, ◌++◌, map, replicate}
+use Rattle.std.specs.Prelude.{ℕ, ◌*◌, List, [], ◌∷◌, ◌++◌, map}
 use Rattle.def_layout.specs.Entries.{top}
 use Rattle.def_model.specs.OnBytes.{Call}
-use Rattle.def_model.specs.CallNames.{begin, restart, next, previous, insert, delete, commit, abort, return_to, write_out}
-use Rattle.def_sessions.specs.Play.{Session, Step, ask, forge_low_bits, See, page_left, page_right, page_kind_is, page_count, page_bytes_from, stored_bytes_from}
+use Rattle.def_model.specs.CallNames.{begin, restart, previous, insert, delete, commit, abort, return_to, write_out}
+use Rattle.def_sessions.specs.Play.{Session, Step, ask, forge_low_bits, page_left, page_right, page_kind_is, page_count, page_bytes_from, stored_bytes_from}
 use Rattle.def_sessions.specs.Table.{answers, refused, of_size, done, power_cut}
 use Rattle.def_sessions.specs.Imports.{loads, import}
 

@@ -1,5 +1,5 @@
 -- REGISTERS FROM THE FIELD: what earlier versions stored, restarted and used.
-use Rattle.std.specs.Prelude.{ℕ, List, [], ◌∷◌}
+use Rattle.std.specs.Prelude.{List, [], ◌∷◌}
 use Rattle.def_layout.specs.Records
 use Rattle.def_layout.specs.Records.{insert, undo_delete, commit, abort_mark, batch_row, data_row}
 use Rattle.def_model.specs.CallNames

@@ -1,5 +1,5 @@
 -- REGISTERS IMPORTED (02, U3): loaded on either side of each edge of the rule, refused, and used.
-use Rattle.std.specs.Prelude.{ℕ, suc, ◌+◌, ◌*◌, List, [], ◌∷◌, ◌++◌, replicate}
+use Rattle.std.specs.Prelude.{ℕ, suc, ◌*◌, List, [], ◌∷◌, ◌++◌, replicate}
 use Rattle.def_layout.specs.Numbers.{tab}
 use Rattle.def_layout.specs.Entries.{entry, top}
 use Rattle.def_model.specs.CallNames.{begin, load, restart, fetch, next, insert, delete, commit}

@@ -1,5 +1,5 @@
 -- THE WORKED SESSIONS. Those that document 01 marks P come first; the others pin what its sessions leave unpinned.
-use Rattle.std.specs.Prelude.{ℕ, ◌+◌, List, [], ◌∷◌, ◌++◌, map, replicate}
+use Rattle.std.specs.Prelude.{ℕ, List, [], ◌∷◌, ◌++◌, map, replicate}
 use Rattle.def_layout.specs.Entries.{entry, top}
 use Rattle.def_model.specs.CallNames.{begin, restart, fetch, next, previous, insert, delete, commit, abort, write_out, take_mark, return_to}
 use Rattle.def_sessions.specs.Play.{Session, Step, ask, cut, See, page_keys, page_entries, page_right, page_left, page_kind_is, page_count, page_bytes_from, kinds_from, previous_from, batches_from, slot_bytes_from, desk_row, slides}

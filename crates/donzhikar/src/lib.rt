@@ -7,7 +7,7 @@
 ghost use Rattle.std.specs.Prelude.{◌≡◌, length};
 ghost use Rattle.def_layout.specs.Sizes.{desk_size};
 ghost use Rattle.def_model.specs.CallNames as calls;
-ghost use Rattle.area_lengths.specs.Lent.{at_entry, at_exit};
+ghost use Rattle.area_lengths.specs.Lent.{lent};
 ghost use Rattle.def_c.specs.FromC.{returned, refused_values, c_call};
 ghost use Rattle.donzhikar.specs.Returned.{Asks, DeskLeft, Refuses, Gives};
 
@@ -99,7 +99,7 @@ pub extern "C" fn donzhikar_format(
     desk: &mut [u8],
     values: &mut [u8],
 ) -> u32
-    ensures { returned result desk.new values.new (at_exit wp sp wl sl) ≡ c_call calls.format (at_entry wp sp wl sl) desk.old values.old }
+    ensures { returned result desk.new values.new (lent wp.new sp.new wl.new sl.new) ≡ c_call calls.format (lent wp.old sp.old wl.old sl.old) desk.old values.old }
 {
     let q = asked(desk, values);
     if !q.ok {
@@ -122,8 +122,8 @@ pub extern "C" fn donzhikar_load(
     keys: &[u32],
     vals: &[u32],
 ) -> u32
-    ensures { returned result desk.new values.new (at_exit wp sp wl sl)
-        ≡ c_call (calls.load keys.now vals.now) (at_entry wp sp wl sl) desk.old values.old }
+    ensures { returned result desk.new values.new (lent wp.new sp.new wl.new sl.new)
+        ≡ c_call (calls.load keys.now vals.now) (lent wp.old sp.old wl.old sl.old) desk.old values.old }
 {
     let q = asked(desk, values);
     if !q.ok {
@@ -144,7 +144,7 @@ pub extern "C" fn donzhikar_begin(
     desk: &mut [u8],
     values: &mut [u8],
 ) -> u32
-    ensures { returned result desk.new values.new (at_exit wp sp wl sl) ≡ c_call calls.begin (at_entry wp sp wl sl) desk.old values.old }
+    ensures { returned result desk.new values.new (lent wp.now sp.now wl.new sl.now) ≡ c_call calls.begin (lent wp.now sp.now wl.old sl.now) desk.old values.old }
 {
     let q = asked(desk, values);
     if !q.ok {
@@ -167,7 +167,7 @@ pub extern "C" fn donzhikar_fetch(
     batch: u32,
     key: u32,
 ) -> u32
-    ensures { returned result desk.new values.new (at_exit wp sp wl sl) ≡ c_call (calls.fetch batch key) (at_entry wp sp wl sl) desk.old values.old }
+    ensures { returned result desk.new values.new (lent wp.now sp.now wl.now sl.now) ≡ c_call (calls.fetch batch key) (lent wp.now sp.now wl.now sl.now) desk.old values.old }
 {
     let q = asked(desk, values);
     if !q.ok {
@@ -190,7 +190,7 @@ pub extern "C" fn donzhikar_next(
     batch: u32,
     key: u32,
 ) -> u32
-    ensures { returned result desk.new values.new (at_exit wp sp wl sl) ≡ c_call (calls.next batch key) (at_entry wp sp wl sl) desk.old values.old }
+    ensures { returned result desk.new values.new (lent wp.now sp.now wl.now sl.now) ≡ c_call (calls.next batch key) (lent wp.now sp.now wl.now sl.now) desk.old values.old }
 {
     let q = asked(desk, values);
     if !q.ok {
@@ -213,7 +213,7 @@ pub extern "C" fn donzhikar_previous(
     batch: u32,
     key: u32,
 ) -> u32
-    ensures { returned result desk.new values.new (at_exit wp sp wl sl) ≡ c_call (calls.previous batch key) (at_entry wp sp wl sl) desk.old values.old }
+    ensures { returned result desk.new values.new (lent wp.now sp.now wl.now sl.now) ≡ c_call (calls.previous batch key) (lent wp.now sp.now wl.now sl.now) desk.old values.old }
 {
     let q = asked(desk, values);
     if !q.ok {
@@ -237,7 +237,7 @@ pub extern "C" fn donzhikar_insert(
     key: u32,
     value: u32,
 ) -> u32
-    ensures { returned result desk.new values.new (at_exit wp sp wl sl) ≡ c_call (calls.insert batch key value) (at_entry wp sp wl sl) desk.old values.old }
+    ensures { returned result desk.new values.new (lent wp.new sp.now wl.new sl.now) ≡ c_call (calls.insert batch key value) (lent wp.old sp.now wl.old sl.now) desk.old values.old }
 {
     let q = asked(desk, values);
     if !q.ok {
@@ -260,7 +260,7 @@ pub extern "C" fn donzhikar_delete(
     batch: u32,
     key: u32,
 ) -> u32
-    ensures { returned result desk.new values.new (at_exit wp sp wl sl) ≡ c_call (calls.delete batch key) (at_entry wp sp wl sl) desk.old values.old }
+    ensures { returned result desk.new values.new (lent wp.new sp.now wl.new sl.now) ≡ c_call (calls.delete batch key) (lent wp.old sp.now wl.old sl.now) desk.old values.old }
 {
     let q = asked(desk, values);
     if !q.ok {
@@ -282,7 +282,7 @@ pub extern "C" fn donzhikar_commit(
     values: &mut [u8],
     batch: u32,
 ) -> u32
-    ensures { returned result desk.new values.new (at_exit wp sp wl sl) ≡ c_call (calls.commit batch) (at_entry wp sp wl sl) desk.old values.old }
+    ensures { returned result desk.new values.new (lent wp.now sp.now wl.new sl.new) ≡ c_call (calls.commit batch) (lent wp.now sp.now wl.old sl.old) desk.old values.old }
 {
     let q = asked(desk, values);
     if !q.ok {
@@ -304,7 +304,7 @@ pub extern "C" fn donzhikar_abort(
     values: &mut [u8],
     batch: u32,
 ) -> u32
-    ensures { returned result desk.new values.new (at_exit wp sp wl sl) ≡ c_call (calls.abort batch) (at_entry wp sp wl sl) desk.old values.old }
+    ensures { returned result desk.new values.new (lent wp.new sp.now wl.new sl.now) ≡ c_call (calls.abort batch) (lent wp.old sp.now wl.old sl.now) desk.old values.old }
 {
     let q = asked(desk, values);
     if !q.ok {
@@ -326,7 +326,7 @@ pub extern "C" fn donzhikar_mark(
     values: &mut [u8],
     batch: u32,
 ) -> u32
-    ensures { returned result desk.new values.new (at_exit wp sp wl sl) ≡ c_call (calls.take_mark batch) (at_entry wp sp wl sl) desk.old values.old }
+    ensures { returned result desk.new values.new (lent wp.now sp.now wl.now sl.now) ≡ c_call (calls.take_mark batch) (lent wp.now sp.now wl.now sl.now) desk.old values.old }
 {
     let q = asked(desk, values);
     if !q.ok {
@@ -349,7 +349,7 @@ pub extern "C" fn donzhikar_return(
     batch: u32,
     mark: u32,
 ) -> u32
-    ensures { returned result desk.new values.new (at_exit wp sp wl sl) ≡ c_call (calls.return_to batch mark) (at_entry wp sp wl sl) desk.old values.old }
+    ensures { returned result desk.new values.new (lent wp.new sp.now wl.new sl.now) ≡ c_call (calls.return_to batch mark) (lent wp.old sp.now wl.old sl.now) desk.old values.old }
 {
     let q = asked(desk, values);
     if !q.ok {
@@ -371,7 +371,7 @@ pub extern "C" fn donzhikar_write_out(
     values: &mut [u8],
     page: u32,
 ) -> u32
-    ensures { returned result desk.new values.new (at_exit wp sp wl sl) ≡ c_call (calls.write_out page) (at_entry wp sp wl sl) desk.old values.old }
+    ensures { returned result desk.new values.new (lent wp.now sp.new wl.now sl.new) ≡ c_call (calls.write_out page) (lent wp.now sp.old wl.now sl.old) desk.old values.old }
 {
     let q = asked(desk, values);
     if !q.ok {
@@ -392,7 +392,7 @@ pub extern "C" fn donzhikar_restart(
     desk: &mut [u8],
     values: &mut [u8],
 ) -> u32
-    ensures { returned result desk.new values.new (at_exit wp sp wl sl) ≡ c_call calls.restart (at_entry wp sp wl sl) desk.old values.old }
+    ensures { returned result desk.new values.new (lent wp.new sp.now wl.new sl.new) ≡ c_call calls.restart (lent wp.old sp.now wl.old sl.old) desk.old values.old }
 {
     let q = asked(desk, values);
     if !q.ok {

@@ -7,7 +7,7 @@ ghost use Rattle.face_command.specs.Commands as commands;
 
 // What has been read of a line: where it stands (0 at its start, 1 after the letter, 2 after a space, 3 in a number, 4 no command), the
 // letter, and how many numbers there are. The last is `c`, those before it are `b` and `a`.
-#[derive(Drop)]
+#[derive(Clone, Copy)]
 pub struct Line {
     pub place: u32,
     pub letter: u32,
@@ -19,7 +19,7 @@ pub struct Line {
 
 // 01: "B begin; I, D, F, N insert, delete, fetch, next, with batch and key (I also value); C commit and A abort, with batch; W write-out,
 // with page; X cut and restart." Other is any other line.
-#[derive(Drop)]
+#[derive(Clone, Copy)]
 pub enum Command {
     Begin,
     Insert { batch: u32, key: u32, value: u32 },

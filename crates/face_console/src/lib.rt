@@ -4,7 +4,7 @@
 ghost use Rattle.std.specs.Prelude.{◌≡◌, false, ◌+◌, ◌*◌, ◌≤◌, length};
 ghost use Rattle.io.specs.Counts.{IsPrefixLen};
 ghost use Rattle.def_layout.specs.Desks.{empty_desk};
-ghost use Rattle.area_lengths.specs.Lent.{at_entry, at_exit};
+ghost use Rattle.area_lengths.specs.Lent.{lent};
 ghost use Rattle.face_command.specs.declared.Command.TheVariants.{Cut};
 ghost use Rattle.face_command.specs.Lines.{start};
 ghost use Rattle.face_console.specs.Obeyed.{Obeyed};
@@ -30,7 +30,7 @@ pub struct Heard {
 }
 
 fn cut_and_restart(wp: &mut [u8], sp: &mut [u8], wl: &mut [u8], sl: &mut [u8]) -> Reply
-    ensures { Obeyed Cut (at_entry wp sp wl sl) empty_desk result (at_exit wp sp wl sl) }
+    ensures { Obeyed Cut (lent wp.old sp.old wl.old sl.old) empty_desk result (lent wp.new sp.new wl.new sl.new) }
 {
     zero(wp);
     zero(wl);
@@ -39,7 +39,7 @@ fn cut_and_restart(wp: &mut [u8], sp: &mut [u8], wl: &mut [u8], sl: &mut [u8]) -
 
 // A command carried out.
 fn obey(wp: &mut [u8], sp: &mut [u8], wl: &mut [u8], sl: &mut [u8], d: Desk, c: Command) -> Reply
-    ensures { Obeyed c (at_entry wp sp wl sl) d result (at_exit wp sp wl sl) }
+    ensures { Obeyed c (lent wp.old sp.old wl.old sl.old) d result (lent wp.new sp.new wl.new sl.new) }
 {
     match c {
         Command::Begin => call_register::begin(wp, sp, wl, sl, d),
@@ -70,7 +70,7 @@ fn hear_line(
     out: &mut [u8],
 ) -> Heard
     requires { h.said + 35 ≤ length out.old }
-    ensures { (result.said ≤ h.said + 35) × Hears (hear_line (stands (at_entry wp sp wl sl) h)) (at_exit wp sp wl sl) result out.old h.said out.new }
+    ensures { (result.said ≤ h.said + 35) × Hears (hear_line (stands (lent wp.old sp.old wl.old sl.old) h)) (lent wp.new sp.new wl.new sl.new) result out.old h.said out.new }
 {
     let l = h.line;
     let d = h.desk;
@@ -98,7 +98,7 @@ fn hear_byte(
     out: &mut [u8],
 ) -> Heard
     requires { h.said + 35 ≤ length out.old }
-    ensures { (result.said ≤ h.said + 35) × Hears (hear_byte x (stands (at_entry wp sp wl sl) h)) (at_exit wp sp wl sl) result out.old h.said out.new }
+    ensures { (result.said ≤ h.said + 35) × Hears (hear_byte x (stands (lent wp.old sp.old wl.old sl.old) h)) (lent wp.new sp.new wl.new sl.new) result out.old h.said out.new }
 {
     if x == b'\n' {
         return hear_line(wp, sp, wl, sl, h, out);
@@ -124,7 +124,7 @@ pub fn hear_bytes(
     out: &mut [u8],
 ) -> Heard
     requires { 35 * length text.now ≤ length out.old }
-    ensures { IsPrefixLen result.said out.new × Hears (hear text.now (stands (at_entry wp sp wl sl) h)) (at_exit wp sp wl sl) result out.old 0 out.new }
+    ensures { IsPrefixLen result.said out.new × Hears (hear text.now (stands (lent wp.old sp.old wl.old sl.old) h)) (lent wp.new sp.new wl.new sl.new) result out.old 0 out.new }
 {
     let l = h.line;
     let d = h.desk;
@@ -164,7 +164,7 @@ pub fn end(
     out: &mut [u8],
 ) -> Heard
     requires { 35 ≤ length out.old }
-    ensures { IsPrefixLen result.said out.new × Hears (hear_end (stands (at_entry wp sp wl sl) h)) (at_exit wp sp wl sl) result out.old 0 out.new }
+    ensures { IsPrefixLen result.said out.new × Hears (hear_end (stands (lent wp.old sp.old wl.old sl.old) h)) (lent wp.new sp.new wl.new sl.new) result out.old 0 out.new }
 {
     let last = ended(h);
     if last.line.place == 0 {
@@ -175,7 +175,7 @@ pub fn end(
 
 // A new register, and nothing read yet.
 pub fn begun(wp: &mut [u8], sp: &mut [u8], wl: &mut [u8], sl: &mut [u8]) -> Heard
-    ensures { stands (at_exit wp sp wl sl) result ≡ listening (formatted (at_entry wp sp wl sl)) start }
+    ensures { stands (lent wp.new sp.new wl.new sl.new) result ≡ listening (formatted (lent wp.old sp.old wl.old sl.old)) start }
 {
     let y = call_register::format(wp, sp, wl, sl, idle_desk(0));
     let d = y.desk;

@@ -1,5 +1,5 @@
 -- The definitions' areas in the codecs' words: pieces that are read and written, stores that are patches, tests that are the same.
-use Rattle.std.specs.Prelude.{◌≡◌, refl, ℕ, zero, suc, ◌+◌, ◌/◌, true, List, [], ◌∷◌, ◌++◌, map, length, take, drop}
+use Rattle.std.specs.Prelude.{◌≡◌, refl, ℕ, zero, suc, ◌/◌, true, List, [], ◌∷◌, ◌++◌, map, length, take, drop}
 use Rattle.std.proofs.Common.{ap}
 use Rattle.def_layout.specs.PageBytes.{Block, read_block, block_bytes, left_in, without_left}
 use Rattle.def_layout.specs.Sizes.{page_size, slot_size}

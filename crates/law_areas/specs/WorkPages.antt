@@ -1,12 +1,12 @@
 -- Working pages by value: what an area of them shows, and one of them written over, or its left link alone.
-use Rattle.std.specs.Prelude.{◌≡◌, ℕ, zero, suc, ◌+◌, ◌-◌, ◌*◌, ◌/◌, ◌%◌, ◌<◌, ◌≤◌, Bool, true, false, length, get_or, set, take, drop}
+use Rattle.std.specs.Prelude.{◌≡◌, ℕ, zero, suc, ◌+◌, ◌*◌, ◌<◌, ◌≤◌, Bool, true, false, length, get_or, set, take, drop}
 use Rattle.std.proofs.Math.Path.{refl, ap₂}
-use Rattle.std.proofs.Common.{ap, sym, ◌∙◌, subst, arith, lit<, lit≤, length-append, length-drop, take_at, drop_at, drop-drop}
-use mathlib.Core.List.{List, [], ◌∷◌, ◌++◌, map, append_assoc}
+use Rattle.std.proofs.Common.{ap, sym, ◌∙◌, subst, arith, lit<, lit≤, length-drop, take_at, drop_at, drop-drop}
+use mathlib.Core.List.{List, [], ◌∷◌, ◌++◌, map}
 use Rattle.def_base.specs.Tests.{pick}
 use Rattle.def_layout.specs.Numbers.{be32, put32}
 use Rattle.def_layout.specs.Pages.{Page, PageKind, free, leaf, index, storage_map, kind_is, page_kind_number, at}
-use Rattle.def_layout.specs.PageBytes.{Block, page, page_bytes, page_fields, read_block, left_in, without_left, with_left}
+use Rattle.def_layout.specs.PageBytes.{page, page_bytes, page_fields, read_block, left_in, with_left}
 use Rattle.def_layout.specs.Sizes.{page_size}
 use Rattle.def_model.specs.OnBytes.{work_bytes}
 use Rattle.def_model.specs.Links.{of_leaves}

@@ -1,5 +1,5 @@
 -- A working area: pages with their left links (02, U5), read back.
-use Rattle.std.specs.Prelude.{◌≡◌, refl, ℕ, zero, suc, ◌+◌, ◌-◌, ◌*◌, ◌/◌, ◌<◌, ◌≤◌, eqb, get_or, drop}
+use Rattle.std.specs.Prelude.{◌≡◌, refl, ℕ, zero, suc, ◌+◌, ◌-◌, ◌*◌, ◌/◌, ◌<◌, ◌≤◌, get_or, drop}
 use Rattle.std.proofs.Math.Path.{ap, ap₂, sym}
 use Rattle.std.proofs.Common.{◌∙◌, subst, lit<, length-append, length-drop}
 use native.Mathlib.Omega.{arith}
@@ -7,7 +7,6 @@ use Rattle.std.proofs.Math.Dec.{eqb-suc-zero}
 use mathlib.Core.List.{List, [], ◌∷◌, ◌++◌, map, map-append, append-nil}
 use Rattle.std.proofs.Math.ListN.{length, replicate}
 use Rattle.std.proofs.lemmas.List.{length-replicate, length-map}
-use Rattle.def_base.specs.Tests.{pick}
 use Rattle.def_layout.specs.Numbers.{be32, put32, zeros}
 use Rattle.def_layout.specs.Pages.{Page, at, zero_page}
 use Rattle.def_layout.specs.PageBytes.{Block, page, page_bytes, read_block, block_bytes, left_in, without_left, with_left}
@@ -17,7 +16,7 @@ use Rattle.law_bytes.specs.Pieces.{All}
 use Rattle.law_bytes.specs.Words.{put32_length}
 use Rattle.law_bytes.specs.PageBytes.{Fits, page_bytes_length, read_block_back}
 use Rattle.law_bytes.specs.LeftLinks.{Links, left_said, left_gone}
-use Rattle.law_areas.specs.Parts.{Wide, joined_length, parts_joined, parts_length, map_same}
+use Rattle.law_areas.specs.Parts.{Wide, joined_length, parts_length, map_same}
 use Rattle.law_areas.specs.Held.{Holds, holds_itself, holds_fit, holds_filled, holds_map}
 use Rattle.law_areas.specs.Pages.{AllPagesFit, filled, filled_whole, zero_bytes, zero_fits}
 

@@ -1,6 +1,6 @@
 -- The left link in a working leaf's bytes (02, U5): taken out and put back.
 use Prim.Native.Nat.{ℕ, zero, suc, ◌+◌, ◌-◌, ◌*◌, ◌/◌, ◌%◌, ◌^◌, ◌<◌, ◌≤◌}
-use Rattle.std.specs.Prelude.{◌≡◌, ◌≢◌, Bool, ◌&&◌, List, [], ◌∷◌, ◌++◌, length, take, eqb}
+use Rattle.std.specs.Prelude.{◌≡◌, ◌≢◌, Bool, ◌&&◌, List, [], ◌++◌, take, eqb}
 use Rattle.std.proofs.Math.Path.{refl, ap, sym}
 use Rattle.std.proofs.Common.{ap₂, ◌∙◌, subst, append-nil, take-append-drop, take_at, lit<}
 use Rattle.std.proofs.Math.Bool.{true, false}
@@ -8,7 +8,7 @@ use native.Mathlib.Omega.{arith}
 use Rattle.std.proofs.Math.ListN.{drop}
 use Rattle.std.proofs.Math.Seq.{drop_at}
 use Rattle.std.proofs.Math.Dec.{eqb-suc-zero}
-use Rattle.def_base.specs.Tests.{pick, Case, yes!, no!, case, clash, true_eq, eq_true, neq_false, and_true, and_both}
+use Rattle.def_base.specs.Tests.{pick, Case, yes!, no!, case, clash, eq_true, neq_false, and_true, and_both}
 use Rattle.def_layout.specs.Numbers.{be32, put32, same_bytes}
 use Rattle.def_layout.specs.Pages.{Page, PageKind, free, leaf, index, storage_map, page_kind_number}
 use Rattle.def_layout.specs.PageBytes.{page_front, page_bytes, left_by, left_in, without_left, with_left}

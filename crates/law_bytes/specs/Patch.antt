@@ -1,5 +1,5 @@
 -- A part of an area that is written over: the one form in which every store is said.
-use Rattle.std.specs.Prelude.{◌≡◌, refl, ℕ, zero, suc, ◌+◌, ◌-◌, ◌≤◌, ◌<◌, List, [], ◌∷◌, ◌++◌, get_or, take, drop, set, length, replicate}
+use Rattle.std.specs.Prelude.{◌≡◌, ℕ, zero, suc, ◌+◌, ◌-◌, ◌≤◌, ◌<◌, List, [], ◌∷◌, ◌++◌, get_or, take, drop, set, length, replicate}
 use Rattle.std.proofs.Common.{ap, ap₂, sym, ◌∙◌, add_assoc, suc-add, add-one, arith, append_assoc, append-nil, length-append, length-drop, take-append-drop, drop_of_length-le, take_at, take-suc, take_all, drop-cons, drop-drop, take-take, length-take-le}
 use Rattle.std.proofs.Math.Numerals.{towards_suc}
 use Rattle.std.proofs.lemmas.List.{length-replicate, replicate-append-replicate, set_at, drop-append-le, take-append-le}

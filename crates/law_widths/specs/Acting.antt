@@ -5,7 +5,7 @@ use Rattle.std.proofs.Math.ListN.{length}
 use Rattle.std.proofs.Math.Dec.{eqb}
 use Rattle.def_base.specs.Tests.{pick, Case, yes!, no!, case, clash}
 use Rattle.def_layout.specs.declared.Entry.{Entry}
-use Rattle.def_layout.specs.Entries.{top, entry, entry_at}
+use Rattle.def_layout.specs.Entries.{top, entry_at}
 use Rattle.def_layout.specs.Sizes.{room}
 use Rattle.def_layout.specs.Pages.{PageKind, free, leaf, index, storage_map, Page, node_at, freed, map_bits}
 use Rattle.def_layout.specs.Records.{Rec, Kind, begin, insert, delete, undo_insert, undo_delete, commit, abort_mark, end, split, link, unlink, merge, redistribute, raise, lower}

@@ -1,5 +1,5 @@
 -- Every request asks for sound areas, which zeroed ones are not.
-use Rattle.std.specs.Prelude.{ℕ, zero, suc, ◌<◌, ◌≡◌, refl, true, [], length, leb}
+use Rattle.std.specs.Prelude.{ℕ, zero, suc, ◌<◌, ◌≡◌, true, [], length, leb}
 use Rattle.std.proofs.Common.{sym, subst, arith}
 use Rattle.std.proofs.Math.Option.{none}
 use Rattle.def_base.specs.Tests.{clash}
@@ -9,7 +9,7 @@ use Rattle.def_model.specs.declared.Refusal.TheVariants.{PageNumber}
 use Rattle.def_model.specs.Areas.{Areas, blocks_ok, block_ok, zero_side}
 use Rattle.def_model.specs.Answers.{check, first_broken, passed}
 use Rattle.def_model.specs.Sound.{sound, layouts_ok}
-use Rattle.def_model.specs.Calls.{format_areas, begin_checks, fetch_checks, next_checks, previous_checks, zero_key, insert_checks, delete_checks, commit_checks, abort_checks, write_out_checks, mark_checks, return_checks}
+use Rattle.def_model.specs.Calls.{begin_checks, fetch_checks, next_checks, previous_checks, zero_key, insert_checks, delete_checks, commit_checks, abort_checks, write_out_checks, mark_checks, return_checks}
 use Rattle.def_model.specs.OnBytes.{request, Request, ask, begin, fetch, next, previous, insert, delete, commit, abort, write_out, take_mark, return_to, checks, question_checks, request_checks, outcome}
 use Rattle.theory_refusals.specs.Order.{passed_does}
 use Rattle.theory_calls.specs.Checks.{none_broken, kept_check, sound_parts}

@@ -10,7 +10,7 @@ use Rattle.def_layout.specs.declared.Row.{Row}
 use Rattle.def_layout.specs.declared.Desk.{Desk}
 use Rattle.def_layout.specs.Numbers.{tab}
 use Rattle.def_layout.specs.Desks.{no_row, row_at, eight_rows}
-use Rattle.def_layout.specs.Records.{Rec, Kind, begin, insert, delete, commit, split, link, unlink, merge, redistribute, raise, lower, batch_row, data_row}
+use Rattle.def_layout.specs.Records.{Rec, Kind, begin, insert, delete, commit, batch_row, data_row}
 use Rattle.def_model.specs.Batches.{Line, Batch, next_undo, change_batch, drop_batch, written, tell, open_batches, chain_ok, row_of, desk_of}
 use Rattle.theory_update.specs.Run.Keeps.{Structural, splitting, linking, unlinking, merging, sharing, raising, lowering}
 use Rattle.theory_update.specs.Run.Wrote.{AllStructural}
@@ -26,13 +26,13 @@ use Rattle.theory_desk.specs.Said.{said_rows, said_row, said_used, said_found}
 
 pub structural_tells : (k : Kind) → Structural k → (n : ℕ) (r : Rec) (bs : List Batch) → tell k n r bs ≡ bs
 unfolding tell
-structural_tells split splitting n r bs = refl
-structural_tells link linking n r bs = refl
-structural_tells unlink unlinking n r bs = refl
-structural_tells merge merging n r bs = refl
-structural_tells redistribute sharing n r bs = refl
-structural_tells raise raising n r bs = refl
-structural_tells lower lowering n r bs = refl
+structural_tells k splitting n r bs = refl
+structural_tells k linking n r bs = refl
+structural_tells k unlinking n r bs = refl
+structural_tells k merging n r bs = refl
+structural_tells k sharing n r bs = refl
+structural_tells k raising n r bs = refl
+structural_tells k lowering n r bs = refl
 
 pub open_structural : (log body : List Rec) → AllStructural body → open_batches (log ++ body) ≡ open_batches log
 unfolding AllStructural

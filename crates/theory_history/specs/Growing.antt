@@ -1,5 +1,5 @@
 -- Histories start with an origin, and stay histories when the areas grow.
-use Rattle.std.specs.Prelude.{ℕ, suc, ◌+◌, ◌≤◌, ◌≡◌, refl, ◌&&◌, length, ltb}
+use Rattle.std.specs.Prelude.{ℕ, suc, ◌≤◌, ◌≡◌, refl, ◌&&◌, length, ltb}
 use Rattle.std.proofs.Math.Path.{sym, subst}
 use Rattle.std.proofs.Common.{ap, ◌∙◌, arith}
 use mathlib.Core.List.{List, [], ◌∷◌, ◌++◌, append_assoc, append-nil}
@@ -55,7 +55,7 @@ start_history o n least most = record { least = least; lawful = here; begins = t
 
 pub lawful_first : {m : ℕ} {pages : List Page} {ls ls' : List (List Node)} (a b : List Rec) → Lawful m pages ls (a ++ b) ls' → (ls₁ : List (List Node)) × Lawful m pages ls a ls₁
 lawful_first {ls = ls} [] b h = (ls, here)
-lawful_first (r ∷ a) b (next k h) = let (l, x) = lawful_first a b h in (l, next k x)
+lawful_first {m} (r ∷ a) b (next k h) = let (l, x) = lawful_first {m = suc m} a b h in (l, next k x)
 
 names_grow : (n m : ℕ) (log : List Rec) → n ≤ m → NamesOk n log → NamesOk m log
 unfolding NamesOk names_pages

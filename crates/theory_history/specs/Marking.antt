@@ -1,5 +1,5 @@
 -- Restart's first two rounds as trails: an abort mark for each open batch without one, an 8 for each with nothing pending.
-use Rattle.std.specs.Prelude.{ℕ, ◌+◌, ◌-◌, ◌≤◌, ◌≢◌, Bool}
+use Rattle.std.specs.Prelude.{ℕ, ◌+◌, ◌≤◌, ◌≢◌, Bool}
 use Rattle.std.proofs.Math.Path.{◌≡◌, refl, sym, ap, subst}
 use Rattle.std.proofs.Common.{◌∙◌}
 use Rattle.std.proofs.Math.Bool.{true, false}
@@ -19,7 +19,6 @@ use Rattle.theory_ledger.specs.Held.{Fresh, Distinct}
 use Rattle.theory_ledger.specs.Telling.{numbered_open}
 use Rattle.theory_history.specs.Core.{Core, told_due}
 use Rattle.theory_history.specs.Notes.{mark_next, end_next}
-use Rattle.theory_history.specs.Trail
 use Rattle.theory_history.specs.Trail.{Trail, trail_append, trail_core, trail_emit, unstopped_emit}
 use Rattle.theory_history.specs.Undoing.{went_on}
 

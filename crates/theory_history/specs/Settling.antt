@@ -1,5 +1,5 @@
 -- Restart's undo as a trail: it ends with no batch open, and the slides are those of the committed batches.
-use Prim.Native.Nat.{ℕ, zero, suc, ◌+◌, ◌-◌, ◌≤◌, ◌<◌}
+use Prim.Native.Nat.{ℕ, zero, suc, ◌≤◌, ◌<◌}
 use Rattle.std.proofs.Math.Path.{◌≡◌, refl, sym, ap, subst}
 use Rattle.std.proofs.Common.{◌∙◌}
 use Rattle.std.specs.Prelude.{◌≢◌, ltb}
@@ -19,7 +19,6 @@ use Rattle.theory_ledger.specs.Held.{Distinct}
 use Rattle.theory_ledger.specs.Batching.{Falls, Within, distinct_change}
 use Rattle.theory_ledger.specs.Telling.{numbered_open}
 use Rattle.theory_history.specs.Core.{Core}
-use Rattle.theory_history.specs.Trail
 use Rattle.theory_history.specs.Trail.{Trail, trail_append, trail_core}
 use Rattle.theory_history.specs.Undoing.{went_on, line_stuck, end_stuck, line_undone, end_trail}
 use Rattle.theory_history.specs.Marking.{find_mid, change_mid, drop_mid, distinct_mid, open_fresh, pending_append, ends_stuck, Busy, busy_count, marks_trail, ends_trail}

@@ -1,5 +1,5 @@
 -- Lawful records one after another, none of them a commit: from a run to a later one, the slides staying.
-use Rattle.std.specs.Prelude.{ℕ, ◌+◌, ◌≤◌, ◌<◌, ◌≡◌, refl, Bool, true, false, List, [], ◌∷◌, ◌++◌, ltb}
+use Rattle.std.specs.Prelude.{ℕ, ◌≤◌, ◌<◌, ◌≡◌, refl, Bool, true, false, List, [], ◌∷◌, ◌++◌, ltb}
 use Rattle.std.proofs.Common.{sym, ap, ◌∙◌, subst, append_assoc, append-nil, arith}
 use Rattle.def_base.specs.Tests.{clash, true_eq, eq_true, true_lt}
 use Rattle.def_layout.specs.declared.Entry.{Entry}

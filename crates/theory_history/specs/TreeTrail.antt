@@ -1,5 +1,5 @@
 -- The records of an update before its last change the tree alone: batches, slides and the leaves' records stay.
-use Rattle.std.specs.Prelude.{ℕ, ◌+◌, ◌≤◌, ◌≡◌, refl, true, List, [], ◌∷◌, ◌++◌, length, leb}
+use Rattle.std.specs.Prelude.{ℕ, ◌≤◌, ◌≡◌, refl, true, List, [], ◌∷◌, ◌++◌, length, leb}
 use Rattle.std.proofs.Common.{sym, ◌∙◌, subst, append_assoc, append-nil, arith}
 use Rattle.std.proofs.Math.Path.{ap}
 use Rattle.std.proofs.Math.Option.{Option, none}
@@ -24,7 +24,6 @@ use Rattle.theory_ledger.specs.Settles.{Settles}
 use Rattle.theory_ledger.specs.Telling.{slides_by}
 use Rattle.theory_history.specs.Core.{Core, NextRecord, told_due, core_more}
 use Rattle.theory_history.specs.Notes.{few_open}
-use Rattle.theory_history.specs.Trail
 use Rattle.theory_history.specs.Trail.{Trail, trail_core}
 
 -- ---- a record of the tree

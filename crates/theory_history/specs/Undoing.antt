@@ -28,7 +28,6 @@ use Rattle.theory_ledger.specs.Batching.{find_change, drop_change, change_none, 
 use Rattle.theory_ledger.specs.Marks.{kept, kept_none, taken_back, left_with, open_falls}
 use Rattle.theory_history.specs.Core.{Core, told_due}
 use Rattle.theory_history.specs.Notes.{mark_next, end_next}
-use Rattle.theory_history.specs.Trail
 use Rattle.theory_history.specs.Trail.{Trail, trail_append, trail_core, trail_emit, unstopped_emit}
 use Rattle.theory_history.specs.Updating.{put_updated, remove_updated}
 use Rattle.theory_history.specs.BatchData.{undo_insert_data, undo_delete_data}

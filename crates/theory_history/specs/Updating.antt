@@ -1,5 +1,5 @@
 -- An update as a trail: records of the tree, and last the batch's own.
-use Rattle.std.specs.Prelude.{ℕ, suc, ◌+◌, ◌≤◌, ◌≡◌, true, List, [], ◌∷◌, ◌++◌, length}
+use Rattle.std.specs.Prelude.{ℕ, suc, ◌≤◌, ◌≡◌, true, List, [], ◌∷◌, ◌++◌, length}
 use Rattle.std.proofs.Math.Path.{refl, sym, subst}
 use Rattle.std.proofs.Common.{ap, ◌∙◌, append_assoc, arith, length-append}
 use Rattle.std.proofs.Math.Option.{none, some}
@@ -9,7 +9,7 @@ use Rattle.def_layout.specs.declared.Entry.{Entry}
 use Rattle.def_layout.specs.Entries.{top, look}
 use Rattle.def_layout.specs.Pages.{map_bits}
 use Rattle.def_layout.specs.Records.{Rec, Kind, begin, insert, data_row}
-use Rattle.def_model.specs.TreeRules.{Node, levels_of, leaves, leaf_records}
+use Rattle.def_model.specs.TreeRules.{Node, levels_of, leaf_records}
 use Rattle.def_model.specs.Update.{Run, put_record, remove_record}
 use Rattle.def_model.specs.Batches.{tell, open_batches, chain_step, chains, find_batch}
 use Rattle.theory_tree.specs.Step.Steps.{Step, Adding, Removing}
@@ -22,7 +22,6 @@ use Rattle.theory_ledger.specs.Small.{Small}
 use Rattle.theory_ledger.specs.Settles.{Settles}
 use Rattle.theory_ledger.specs.Telling.{slides_by}
 use Rattle.theory_history.specs.Core.{Core, NextRecord, core_ready, told_due}
-use Rattle.theory_history.specs.Trail
 use Rattle.theory_history.specs.Trail.{Trail, trail_core}
 use Rattle.theory_history.specs.TreeTrail.{last_cancel, way_silent, Silently, leaves_after}
 

@@ -1,6 +1,6 @@
 -- THE COLUMNS' RECORDS: as many as rows, rising where the keys do, and of 32 bits where the numbers are.
-use Rattle.std.specs.Prelude.{ℕ, suc, ◌≤◌, ◌≡◌, refl, true, ◌&&◌, List, [], ◌∷◌, length, leb}
-use Rattle.std.proofs.Common.{ap, sym, arith}
+use Rattle.std.specs.Prelude.{ℕ, suc, ◌≡◌, refl, true, List, [], ◌∷◌, length, leb}
+use Rattle.std.proofs.Common.{ap, arith}
 use Rattle.def_base.specs.Tests.{every, and_true, true_le}
 use Rattle.def_layout.specs.Entries.{top}
 use Rattle.def_model.specs.Loading.{columns, keys_rise}

@@ -1,16 +1,15 @@
 -- EVERY NUMBER ON A LOADED PAGE FITS ITS FIELD: entries, high keys, page numbers and levels, where the records' do.
 use Prim.Native.Nat.{ℕ, zero, suc, ◌+◌, ◌≤◌, ◌<◌}
-use Rattle.std.specs.Prelude.{◌≡◌, refl, Bool, true, false, get_or, leb, eqb}
+use Rattle.std.specs.Prelude.{◌≡◌, false, leb}
 use Rattle.std.proofs.Common.{sym, ap, ◌∙◌, subst, length-append}
 use mathlib.Core.List.{List, [], ◌∷◌, ◌++◌, append-nil, append_assoc}
 use native.Mathlib.Omega.{arith}
 use Rattle.std.proofs.Math.Decide.{dec_lt}
-use Rattle.std.proofs.Math.ListN.{length, get_or-append}
+use Rattle.std.proofs.Math.ListN.{length}
 use Rattle.std.proofs.Math.Seq.{get_or-append_seam}
-use Rattle.std.proofs.Math.Dec.{eqb-suc-zero}
 use Rattle.def_base.specs.Tests.{pick, Case, yes!, no!, case, true_le, false_le}
 use Rattle.def_layout.specs.declared.Entry.{Entry}
-use Rattle.def_layout.specs.Entries.{entry, top}
+use Rattle.def_layout.specs.Entries.{top}
 use Rattle.def_layout.specs.Sizes.{room}
 use Rattle.def_layout.specs.Pages.{Page, at, zero_page, node_at}
 use Rattle.def_model.specs.TreeRules.{Node, first_page}

@@ -1,6 +1,6 @@
 -- ENTRIES IN PAGES, as a loading cuts them (02, U3): none is lost, each page has 4 to 10, and how many pages there are.
-use Rattle.std.specs.Prelude.{ℕ, zero, suc, ◌+◌, ◌-◌, ◌/◌, ◌≤◌, ◌<◌, ◌≡◌, refl, Bool, true, false, List, [], ◌∷◌, ◌++◌, length, take, drop, leb}
-use Rattle.std.proofs.Common.{sym, ap, ◌∙◌, subst, append-nil, arith, length-take, length-drop, take-append-drop}
+use Rattle.std.specs.Prelude.{ℕ, zero, suc, ◌+◌, ◌/◌, ◌≤◌, ◌<◌, ◌≡◌, Bool, true, false, List, [], ◌∷◌, ◌++◌, length, take, drop, leb}
+use Rattle.std.proofs.Common.{ap, ◌∙◌, append-nil, arith, length-take, length-drop, take-append-drop}
 use Rattle.def_base.specs.Tests.{pick, Case, yes!, no!, case, true_le, false_le}
 use Rattle.def_layout.specs.declared.Entry.{Entry}
 use Rattle.def_model.specs.Loading.{share, groups, group_count}

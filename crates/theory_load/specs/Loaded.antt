@@ -1,6 +1,6 @@
 -- WHAT A LOADING BUILDS KEEPS THE TREE RULES, and its leaves are the records (02, U3: "The tree obeys the tree rules and holds exactly the columns' records").
 use Prim.Native.Nat.{ℕ, zero, suc, ◌+◌, ◌-◌, ◌≤◌, ◌<◌}
-use Rattle.std.specs.Prelude.{◌≡◌, refl, Bool, length, get_or, take}
+use Rattle.std.specs.Prelude.{◌≡◌, refl, length, get_or, take}
 use Rattle.std.proofs.Math.Path.{sym, ap, subst}
 use Rattle.std.proofs.Common.{◌∙◌, arith}
 use Rattle.std.proofs.Math.Bool.{true, false}
@@ -10,11 +10,11 @@ use Rattle.def_layout.specs.declared.Entry.{Entry}
 use Rattle.def_layout.specs.Entries.{top}
 use Rattle.def_layout.specs.Pages.{Page, at, zero_page, map_page, map_bits}
 use Rattle.def_model.specs.Fit.{after}
-use Rattle.def_model.specs.TreeRules.{Node, counted, ones, leaf_records, leaves, tree_ok, levels_of}
+use Rattle.def_model.specs.TreeRules.{Node, counted, ones, leaf_records, leaves, tree_ok}
 use Rattle.def_model.specs.Loading.{level_pages, levels_pages, loaded_levels, loaded_count, loaded_pages}
 use Rattle.theory_tree.specs.Order.Keys.{Rising}
 use Rattle.theory_tree.specs.Shape.Chains.{All}
-use Rattle.theory_tree.specs.Shape.Trees.{Joined, Every}
+use Rattle.theory_tree.specs.Shape.Trees.{Every}
 use Rattle.theory_tree.specs.Shape.Rules.{Rules, every_map}
 use Rattle.theory_tree.specs.Test.Test.{test_complete, rules_levels}
 use Rattle.theory_load.specs.Shape.{Covers, Joins, Shape, load_shape, load_leaves, load_rooted}

@@ -1,8 +1,8 @@
 -- A LOADED REGISTER as an origin: histories start from it, with the columns' records as slides.
-use Prim.Native.Nat.{ℕ, zero, suc, ◌+◌, ◌-◌, ◌≤◌, ◌<◌, ◌^◌}
-use Rattle.std.specs.Prelude.{◌≡◌, Bool, not, ◌&&◌, length, get_or, drop, replicate, ltb, leb, eqb}
+use Prim.Native.Nat.{ℕ, zero, suc, ◌-◌, ◌≤◌, ◌<◌, ◌^◌}
+use Rattle.std.specs.Prelude.{◌≡◌, length, get_or, drop, replicate}
 use Rattle.std.proofs.Math.Path.{refl, ap, subst}
-use Rattle.std.proofs.Common.{sym, ◌∙◌, lit≤}
+use Rattle.std.proofs.Common.{sym, ◌∙◌}
 use Rattle.std.proofs.Math.Bool.{true, false}
 use mathlib.Core.List.{List, [], ◌∷◌, ◌++◌, append-nil}
 use native.Mathlib.Omega.{arith}
@@ -28,8 +28,8 @@ use Rattle.theory_tree.specs.Shape.Height.{few_levels}
 use Rattle.theory_fit.specs.Clean.{Clean}
 use Rattle.theory_pages.specs.Layout.{Laid}
 use Rattle.theory_history.specs.Origin.{Origin, origin_pages}
-use Rattle.theory_load.specs.Numbering.{total, load_numbers}
-use Rattle.theory_load.specs.Fitting.{limit, Fine, NodeFine, AllFine, load_fine, at_levels}
+use Rattle.theory_load.specs.Numbering.{load_numbers}
+use Rattle.theory_load.specs.Fitting.{Fine, NodeFine, AllFine, load_fine, at_levels}
 use Rattle.theory_load.specs.Loaded.{loaded_length, loaded_rules, loaded_tree, loaded_leaves, same_at}
 
 -- ---- one page

@@ -1,13 +1,13 @@
 -- A LEVEL THAT A LOADING BUILDS from groups of rising entries: its entries, its covers, and what the level above has for it.
-use Rattle.std.specs.Prelude.{ℕ, suc, ◌+◌, ◌≤◌, ◌<◌, ◌≡◌, refl, Bool, true, false, List, [], ◌∷◌, ◌++◌, map, length}
+use Rattle.std.specs.Prelude.{ℕ, suc, ◌≤◌, ◌<◌, ◌≡◌, refl, Bool, true, false, List, [], ◌∷◌, ◌++◌, length}
 use Rattle.std.proofs.Common.{sym, ap, ◌∙◌, subst, append-nil, arith}
 use Rattle.def_layout.specs.declared.Entry.{Entry}
-use Rattle.def_layout.specs.Entries.{entry, top}
+use Rattle.def_layout.specs.Entries.{top}
 use Rattle.def_model.specs.Fit.{after}
 use Rattle.def_model.specs.TreeRules.{Node, flat}
 use Rattle.def_model.specs.Loading.{last_key, group_nodes, links}
 use Rattle.theory_tree.specs.Order.Keys.{Rising, after_append, rising_cut, after_grows}
-use Rattle.theory_tree.specs.Shape.Levels.{Match, done, one, Ends, NodeOk, ChainOk}
+use Rattle.theory_tree.specs.Shape.Levels.{Match, done, one, Ends, ChainOk}
 use Rattle.theory_load.specs.Groups.{joined, Sized}
 
 -- ---- its entries

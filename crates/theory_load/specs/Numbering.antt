@@ -1,8 +1,8 @@
 -- THE PAGES OF A LOADED TREE ARE NUMBERED from 1 on, level after level: so each level is chained on the pages that are laid out in that order.
-use Rattle.std.specs.Prelude.{ℕ, zero, suc, ◌+◌, ◌≤◌, ◌<◌, ◌≡◌, refl, Bool, true, false, List, [], ◌∷◌, ◌++◌, length, get_or, leb}
+use Rattle.std.specs.Prelude.{ℕ, zero, suc, ◌+◌, ◌≤◌, ◌<◌, ◌≡◌, refl, List, [], ◌∷◌, ◌++◌, length, leb}
 use Rattle.std.proofs.Common.{sym, ap, ◌∙◌, subst, append_assoc, arith, length-append}
 use Rattle.std.proofs.Math.Seq.{get_or-append_seam}
-use Rattle.def_base.specs.Tests.{pick, Case, yes!, no!, case, true_le, false_le}
+use Rattle.def_base.specs.Tests.{Case, yes!, no!, case, false_le}
 use Rattle.def_layout.specs.declared.Entry.{Entry}
 use Rattle.def_layout.specs.Sizes.{room}
 use Rattle.def_layout.specs.Pages.{Page, at, zero_page, node_at}

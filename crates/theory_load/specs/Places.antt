@@ -1,6 +1,6 @@
 -- WHERE THE GROUPS OF A LEVEL BEGIN AND END, by their number: so a page of a loading is known without those before it.
-use Rattle.std.specs.Prelude.{ℕ, zero, suc, ◌+◌, ◌-◌, ◌*◌, ◌/◌, ◌≤◌, ◌<◌, ◌≡◌, refl, Bool, true, false, List, [], ◌∷◌, ◌++◌, length, get_or, take, drop, leb, eqb}
-use Rattle.std.proofs.Common.{sym, ap, ap₂, ◌∙◌, subst, arith, length-take, length-drop, take_all, drop-drop}
+use Rattle.std.specs.Prelude.{ℕ, zero, suc, ◌+◌, ◌-◌, ◌*◌, ◌/◌, ◌≤◌, ◌<◌, ◌≡◌, refl, List, [], ◌∷◌, length, get_or, take, drop, leb, eqb}
+use Rattle.std.proofs.Common.{sym, ap, ap₂, ◌∙◌, arith, length-drop, take_all, drop-drop}
 use Rattle.std.proofs.Math.Decide.{dec_lt}
 use Rattle.def_base.specs.Tests.{pick, Case, yes!, no!, case, true_le, le_true, le_false, false_le, eq_true, neq_false}
 use Rattle.def_layout.specs.declared.Entry.{Entry}

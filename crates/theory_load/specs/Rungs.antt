@@ -2,13 +2,13 @@
 use Prim.Native.Nat.{ℕ, zero, suc, ◌+◌, ◌-◌, ◌≤◌, ◌<◌}
 use Rattle.std.specs.Prelude.{◌≡◌, ◌≢◌, Bool, drop, leb, ltb, eqb}
 use Rattle.std.proofs.Math.Path.{refl, sym, ap, ap₂, subst}
-use Rattle.std.proofs.Common.{◌∙◌, length-append, length-drop, get_or-take, get_or-drop, length-take-le, get_or-append-add}
+use Rattle.std.proofs.Common.{◌∙◌, length-drop, get_or-take, get_or-drop, length-take-le, get_or-append-add}
 use Rattle.std.proofs.Math.Bool.{true, false}
 use mathlib.Core.List.{List, [], ◌∷◌, ◌++◌, append_assoc, append-nil}
 use native.Mathlib.Omega.{arith}
 use Rattle.std.proofs.Math.ListN.{length, get_or, take, get_or-append}
 use Rattle.std.proofs.Math.Dec.{eqb-suc-suc}
-use Rattle.def_base.specs.Tests.{pick, Case, yes!, no!, case, neq_false, eq_true, lt_true, lt_false, le_true, le_false, true_le, false_le}
+use Rattle.def_base.specs.Tests.{pick, neq_false, eq_true, lt_true, lt_false, le_true, le_false}
 use Rattle.def_layout.specs.declared.Entry.{Entry}
 use Rattle.def_layout.specs.Entries.{entry, entry_at, key_at, no_entry, top}
 use Rattle.def_layout.specs.Numbers.{tab}
@@ -18,7 +18,7 @@ use Rattle.def_model.specs.TreeRules.{Node, first_page}
 use Rattle.def_model.specs.Loading.{groups, group_count, last_key, group_nodes, links, tree_count, load_levels, level_pages, levels_pages, loaded_levels, loaded_count}
 use Rattle.law_bytes.specs.Tables.{tab_is, tab_same}
 use Rattle.theory_load.specs.Groups.{groups_count}
-use Rattle.theory_load.specs.Places.{group_end, group_start, end_fits, group_of, nth_group}
+use Rattle.theory_load.specs.Places.{group_end, group_start, end_fits, nth_group}
 use Rattle.theory_load.specs.Nodes.{nodes_length, links_length}
 use Rattle.theory_load.specs.Numbering.{total, load_numbers, level_length}
 

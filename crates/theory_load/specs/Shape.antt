@@ -1,5 +1,5 @@
 -- THE TREE THAT A LOADING BUILDS has the shape of the rules, whatever pages hold it: covers, matches, sizes, root, and its leaves are the records.
-use Prim.Native.Nat.{ℕ, zero, suc, ◌+◌, ◌≤◌, ◌<◌}
+use Prim.Native.Nat.{ℕ, zero, suc, ◌≤◌, ◌<◌}
 use Rattle.std.specs.Prelude.{◌≡◌, refl, Bool, true, false, leb, eqb}
 use Rattle.std.proofs.Common.{sym, ap, ◌∙◌, subst}
 use mathlib.Core.List.{List, [], ◌∷◌, ◌++◌, append-nil, append_assoc}
@@ -14,7 +14,7 @@ use Rattle.def_model.specs.Fit.{after}
 use Rattle.def_model.specs.TreeRules.{Node, flat, bottom, leaves, least, root_least, first_page}
 use Rattle.def_model.specs.Loading.{groups, group_count, group_nodes, links, tree_count, load_levels}
 use Rattle.theory_tree.specs.Order.Keys.{Rising}
-use Rattle.theory_tree.specs.Shape.Levels.{Match, Ends, ChainOk}
+use Rattle.theory_tree.specs.Shape.Levels.{Match, ChainOk}
 use Rattle.theory_tree.specs.Shape.Chains.{All}
 use Rattle.theory_tree.specs.Shape.Trees.{is_bottom, Joined, Every}
 use Rattle.theory_tree.specs.Shape.Sizes.{Sized, SizedLevel, Sizes}

@@ -9,7 +9,7 @@ use Rattle.def_base.specs.Tests.{pick, Case, yes!, no!, case, clash, and_true, a
 use Rattle.def_layout.specs.declared.Entry.{Entry}
 use Rattle.def_layout.specs.Entries.{top, entry, ten_bits, same_entries}
 use Rattle.def_layout.specs.Sizes.{room}
-use Rattle.def_layout.specs.Pages.{Page, PageKind, free, leaf, index, storage_map, page_kind_number, kind_is, kind_at, node_at, at, layout, layout_by, own_ok, map_bits}
+use Rattle.def_layout.specs.Pages.{Page, PageKind, free, leaf, index, storage_map, page_kind_number, kind_is, kind_at, node_at, layout, layout_by, own_ok, map_bits}
 use Rattle.def_layout.specs.Records.{Kind, begin, insert, delete, undo_insert, undo_delete, commit, abort_mark, end, split, link, unlink, merge, redistribute, raise, lower, Rec}
 use Rattle.def_layout.specs.Rows.{level_bits, carries, named_only, row, row_says}
 use Rattle.def_model.specs.Change.{as_map, shape, role, hit, link_in, unlink_in, kept, with_lsn, entries_in, cut_to_size, into_a, share_in_a, share_in_b, change_a, change_b, change_c, change, page_marked, takes, act}

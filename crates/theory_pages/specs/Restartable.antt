@@ -36,14 +36,14 @@ pub prefix_laid : {n : ℕ} {pages : List Page} {ls ls' : List (List Node)} (a b
 unfolding replay
 prefix_laid [] b w f k l d = d
 prefix_laid {n} {pages} {ls} (r ∷ a) b (next {ls₁ = ls₁} j w) f k l d =
-    prefix_laid a b w (let e = length_redo_record n r pages in omega arith) (step_rules n pages f l ls ls₁ r j k) (lows_more n r pages l) (step_laid n pages f l d ls ls₁ r j k)
+    prefix_laid {n = suc n} a b w (let e = length_redo_record n r pages in omega arith) (step_rules n pages f l ls ls₁ r j k) (lows_more n r pages l) (step_laid n pages f l d ls ls₁ r j k)
 
 pub prefix_clean : {n : ℕ} {pages : List Page} {ls ls' : List (List Node)} (a b : List Rec) → Lawful n pages ls (a ++ b) ls' → length pages ≤ map_bits
     → Rules pages ls → Lows n pages → Clean pages → Clean (replay n a pages)
 unfolding replay
 prefix_clean [] b w f k l c = c
 prefix_clean {n} {pages} {ls} (r ∷ a) b (next {ls₁ = ls₁} j w) f k l c =
-    prefix_clean a b w (let e = length_redo_record n r pages in omega arith) (step_rules n pages f l ls ls₁ r j k) (lows_more n r pages l) (step_clean n pages l c ls ls₁ r j k)
+    prefix_clean {n = suc n} a b w (let e = length_redo_record n r pages in omega arith) (step_rules n pages f l ls ls₁ r j k) (lows_more n r pages l) (step_clean n pages l c ls ls₁ r j k)
 
 -- A page that holds the changes of a first part is that page of the area after it.
 page_run_replay : (n : ℕ) (a : List Rec) (base : List Page) (p : ℕ) → p < length base → (at base p).lsn < n

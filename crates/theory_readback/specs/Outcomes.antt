@@ -1,5 +1,5 @@
 -- THE BYTES THAT A CALL LEAVES SHOW WHAT IT LEFT: every call, refused or not, on bytes of any content.
-use Rattle.std.specs.Prelude.{ℕ, suc, ◌*◌, ◌/◌, ◌≤◌, ◌<◌, ◌≡◌, refl, true, ◌&&◌, length, take, replicate, leb, eqb}
+use Rattle.std.specs.Prelude.{ℕ, suc, ◌*◌, ◌/◌, ◌≤◌, ◌≡◌, refl, true, ◌&&◌, length, take, replicate, leb, eqb}
 use Rattle.std.proofs.Common.{sym, ap, ◌∙◌, subst₂, arith}
 use Rattle.std.proofs.Math.Path.{subst}
 use Rattle.std.proofs.Math.Option.{Option, none, some}

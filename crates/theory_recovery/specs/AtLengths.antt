@@ -1,5 +1,5 @@
 -- Areas of right lengths, as a call reads them: n pages and m slots, zeros read as pages never used and empty slots.
-use Rattle.std.specs.Prelude.{ℕ, ◌+◌, ◌-◌, ◌*◌, ◌≤◌, ◌≡◌, replicate}
+use Rattle.std.specs.Prelude.{ℕ, ◌-◌, ◌*◌, ◌≤◌, ◌≡◌, replicate}
 use Rattle.std.proofs.Math.Path.{sym, ap}
 use Rattle.std.proofs.Common.{◌∙◌, subst₂, arith}
 use mathlib.Core.List.{List, [], ◌++◌, map}

@@ -1,5 +1,5 @@
 -- A call that passed its checks, restart or another, on a register that keeps the invariant: what it ends with.
-use Rattle.std.specs.Prelude.{ℕ, ◌+◌, ◌/◌, ◌≤◌, ◌≡◌, true, false, ◌&&◌, List, [], ◌++◌, length}
+use Rattle.std.specs.Prelude.{ℕ, ◌/◌, ◌≤◌, ◌≡◌, true, false, ◌&&◌, List, [], ◌++◌, length}
 use Rattle.std.proofs.Common.{sym, ◌∙◌, append-nil, arith}
 use Rattle.std.proofs.Math.Path.{ap}
 use Rattle.def_base.specs.Tests.{clash, and_true, true_le}

@@ -1,5 +1,5 @@
 -- THE INVARIANT that every call, cut and growth keeps.
-use Rattle.std.specs.Prelude.{ℕ, ◌+◌, ◌≤◌, ◌≡◌, Bool, true, List, [], ◌++◌, length}
+use Rattle.std.specs.Prelude.{ℕ, ◌≤◌, ◌≡◌, Bool, true, List, [], ◌++◌, length}
 use Rattle.def_layout.specs.Numbers.{zeros}
 use Rattle.def_layout.specs.Pages.{Page, map_bits}
 use Rattle.def_layout.specs.Records.{Rec}

@@ -1,6 +1,6 @@
 -- A CALL THAT PASSED keeps the invariant, ended or cut.
-use Prim.Native.Nat.{ℕ, ◌+◌, ◌≤◌}
-use Rattle.std.specs.Prelude.{◌≡◌, refl, Bool, false, List, [], ◌∷◌, ◌++◌, map, take, drop, leb}
+use Prim.Native.Nat.{ℕ, ◌≤◌}
+use Rattle.std.specs.Prelude.{◌≡◌, refl, Bool, false, List, [], ◌∷◌, ◌++◌, take, drop, leb}
 use Rattle.std.proofs.Math.Path.{sym, ap, subst}
 use Rattle.std.proofs.Common.{◌∙◌, append_assoc, append-nil, take-append-drop, take_all}
 use Rattle.std.proofs.Math.Option.{Option, none, some}
@@ -10,7 +10,6 @@ use Rattle.std.proofs.Math.ListN.{length, length-append}
 use Rattle.std.proofs.lemmas.List.{take-append-le}
 use Rattle.def_base.specs.Tests.{any, clash, Case, yes!, no!, case, true_le, false_le}
 use Rattle.def_layout.specs.declared.Desk.{Desk}
-use Rattle.def_layout.specs.PageBytes.{page}
 use Rattle.def_layout.specs.Records.{Rec}
 use Rattle.def_model.specs.Update.{Run}
 use Rattle.def_model.specs.Links.{relinked}

@@ -1,5 +1,5 @@
 -- DEMAND 3: for any list of calls, cuts and growth since the last finished formatting.
-use Rattle.std.specs.Prelude.{ℕ, ◌+◌, ◌*◌, ◌/◌, ◌≤◌, ◌≡◌, ◌⊎◌, take, replicate}
+use Rattle.std.specs.Prelude.{ℕ, ◌*◌, ◌/◌, ◌≤◌, ◌≡◌, ◌⊎◌, take, replicate}
 use Rattle.std.proofs.Math.Path.{refl, sym, ap, subst, subst₂}
 use Rattle.std.proofs.Common.{◌∙◌, inl, inr, arith, take_all}
 use Rattle.std.proofs.Math.Bool.{true, false}
@@ -23,14 +23,13 @@ use Rattle.def_model.specs.Calls.{formatted_pages, format_stores, format_areas, 
 use Rattle.def_model.specs.Links.{relinked}
 use Rattle.def_model.specs.Restart.{stable_log, redone, restarted}
 use Rattle.def_model.specs.Redo.{replay}
-use Rattle.def_model.specs.OnBytes
 use Rattle.def_model.specs.OnBytes.{Result, start, restart, request, Start, format, load, commit, checks, start_checks, does, start_does, outcome_by, outcome, Lent, call, call_by, read_areas, read_work, work_bytes, log_bytes, lengths_ok, lent_after, store_all_bytes}
 use Rattle.def_recovery.specs.Book.{new_book}
 use Rattle.def_recovery.specs.Events.{World, Event, ended, cut, grown, Allowed, AllAllowed, formatted, happen, happen_all, of_32_bits, passes, started, first_slides}
 use Rattle.def_recovery.specs.Demand3.{Demand3, Recovers, WantsExactly, Suffices, FinishesOrWants, RedoBalances, LeavesAreSlides, reason, stored, is_commit_of}
 use Rattle.theory_ledger.specs.Telling.{slides_of, slides_from}
 use Rattle.theory_room.specs.Restarting.{restarted_cases, restarted_finishes, restarted_wants_room, restarted_wants_pages, restarted_wants_room_first, some_room_does, redone_no_room}
-use Rattle.law_areas.specs.Typed.{formatted_length, pages_back}
+use Rattle.law_areas.specs.Typed.{pages_back}
 use Rattle.theory_history.specs.Origin.{Origin, origin_pages, origin_length}
 use Rattle.theory_history.specs.FormattedOrigin.{formatted_origin, formatted_is}
 use Rattle.theory_history.specs.Core.{Core}
@@ -49,7 +48,7 @@ use Rattle.theory_history.specs.Linking.{history_linked}
 use Rattle.theory_tree.specs.Shape.LeftLinks.{relinked_length}
 use Rattle.theory_calls.specs.Restarting.{restart_reason, finished, restart_work, restart_within}
 use Rattle.theory_refusals.specs.Order.{passed_does}
-use Rattle.theory_load.specs.Checked.{Starts, load_starts}
+use Rattle.theory_load.specs.Checked.{load_starts}
 use Rattle.theory_sound.specs.RestartRoom.{reserves_finish, reserves_end, redone_no_page}
 use Rattle.theory_recovery.specs.Invariant.{Sure, live, Inv}
 use Rattle.theory_recovery.specs.Fixing.{fixed_none, any_first}

@@ -1,5 +1,5 @@
 -- Areas of whole parts are written back as they were read, whatever stands in them.
-use Rattle.std.specs.Prelude.{ℕ, zero, suc, ◌+◌, ◌*◌, ◌/◌, ◌≡◌, refl, List, [], ◌∷◌, ◌++◌, map, length, take, drop}
+use Rattle.std.specs.Prelude.{ℕ, zero, suc, ◌*◌, ◌/◌, ◌≡◌, refl, List, [], ◌∷◌, ◌++◌, map, length, take, drop}
 use Rattle.std.proofs.Common.{ap, ◌∙◌, arith, take-append-drop, length-drop}
 use Rattle.def_layout.specs.PageBytes.{read_block, left_in, without_left, with_left}
 use Rattle.def_layout.specs.Sizes.{page_size, slot_size}

@@ -1,7 +1,7 @@
 -- WHERE A LEFT LINK MAY STAND. 02, U5: "Leaves get a left link in the first 10 spare bits after the right link, in working pages only; write-out stores it as zero".
 -- A stable page with one was not stored by a call: 3. In a working page that is no leaf these bits are spare, and so are the two after a leaf's link: 11.
 use Prim.Native.Nat.{ℕ, zero, suc, ◌+◌, ◌*◌, ◌/◌, ◌%◌, ◌<◌, ◌≤◌}
-use Rattle.std.specs.Prelude.{◌≡◌, ◌≢◌, Bool, true, false, ◌&&◌, List, [], ◌∷◌, ◌++◌, map, take, drop}
+use Rattle.std.specs.Prelude.{◌≡◌, ◌≢◌, Bool, true, false, ◌&&◌, List, ◌++◌, map, take, drop}
 use Rattle.std.proofs.Math.Path.{refl}
 use Rattle.std.proofs.Common.{ap, sym, ◌∙◌, subst, append_assoc, arith, length-take, drop-drop, take_at, drop_at, lit<}
 use Rattle.std.proofs.Math.ListN.{length}
@@ -22,7 +22,6 @@ use Rattle.law_bytes.specs.Same.{same_true}
 use Rattle.law_bytes.specs.PageBytes.{word_0, page_bytes_length}
 use Rattle.law_bytes.specs.LeftLinks.{left_low, left_said}
 use Rattle.law_bytes.specs.LeftFields.{without_word}
-use Rattle.law_areas.specs.Pages.{read_pages_length}
 use Rattle.theory_refusals.specs.Order.{refused_exactly}
 
 -- Bytes that show a link are not those of the fields that they show.

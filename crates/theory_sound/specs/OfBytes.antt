@@ -15,7 +15,6 @@ use Rattle.def_model.specs.Answers.{passed}
 use Rattle.def_model.specs.Sound.{sound}
 use Rattle.def_model.specs.OnBytes
 use Rattle.def_model.specs.OnBytes.{Call, start, request, Lent, lengths_ok, parts, read_log, read_areas, outcome}
-use Rattle.def_model.specs.Restart.{stable_log}
 use Rattle.def_recovery.specs.Events.{of_32_bits}
 use Rattle.law_bytes.specs.Same.{same_true}
 use Rattle.theory_ledger.specs.Small.{Small, SmallLines, small_change, small_drop, small_end, small_rest}

@@ -1,5 +1,5 @@
 -- ANY RESTART THAT IS NOT REFUSED LEAVES A SOUND REGISTER, of whatever image: stored by calls, damaged or forged.
-use Rattle.std.specs.Prelude.{◌+◌, ◌-◌, ◌≤◌, ◌<◌, ◌≡◌, refl, ◌⊎◌, true, false, ◌&&◌, List, [], ◌++◌, length, eqb}
+use Rattle.std.specs.Prelude.{◌≤◌, ◌<◌, ◌≡◌, refl, ◌⊎◌, true, false, ◌&&◌, List, [], ◌++◌, length, eqb}
 use Rattle.std.proofs.Common.{sym, ◌∙◌, inl, inr, take_all}
 use Rattle.std.proofs.Math.Path.{subst}
 use Rattle.std.proofs.Math.Option.{none}

@@ -1,5 +1,5 @@
 -- A RESTART SETTLES: of any image that restart accepts, whose unmarked pages redo leaves free, every first part of what it stores leads the next restart to the same slides.
-use Rattle.std.specs.Prelude.{ℕ, ◌+◌, ◌-◌, ◌≡◌, drop}
+use Rattle.std.specs.Prelude.{ℕ, ◌≡◌, drop}
 use Rattle.std.proofs.Math.Path.{refl, sym, ap}
 use Rattle.std.proofs.Common.{◌∙◌, arith, take-append-drop}
 use Rattle.std.proofs.Math.Bool.{true}

@@ -28,7 +28,6 @@ use Rattle.def_model.specs.Sound.{sound, reserve, work_pages, work_log, work_slo
 use Rattle.def_model.specs.Calls.{run_of, run_side, kept_run, unchanged, no_slots, no_pages, is_none, value_or, next_limit, next_answer, last_of, fetch_checks, next_checks, before, previous_limit, previous_checks, insert_checks, insert_slide, delete_checks, delete_slide}
 use Rattle.def_model.specs.OnBytes.{request, ask, fetch, next, previous, insert, delete, question_checks, question_answer, checks, request_checks, does, request_does, refused, refused_work, refused_desk, outcome_by, outcome}
 use Rattle.theory_tree.specs.Step.Steps.{by_insert, by_delete}
-use Rattle.theory_update.specs.Laws
 use Rattle.theory_update.specs.Laws.{Ready, put_law, remove_law}
 use Rattle.theory_update.specs.Find.Fetching.{fetched_is, next_above_is}
 use Rattle.theory_update.specs.Find.Backwards.{previous_below_is}

@@ -24,10 +24,9 @@ use Rattle.def_model.specs.Update.{Run, emit, put_record, remove_record}
 use Rattle.def_model.specs.Undo.{undo_above, return_run, abort_run}
 use Rattle.def_model.specs.Sound.{sound, reserve, work_pages, work_log, work_slots, work_open, update_has_slots, update_has_pages, begin_has_slots}
 use Rattle.def_model.specs.Calls.{run_of, run_side, aborted, abort_of, is_none, returned, return_of}
-use Rattle.def_model.specs.OnBytes.{Call, begin, insert, delete, commit, outcome}
+use Rattle.def_model.specs.OnBytes.{Call, outcome}
 use Rattle.theory_tree.specs.Step.Steps.{by_insert, by_delete}
 use Rattle.theory_update.specs.Run.Way.{written_by}
-use Rattle.theory_update.specs.Laws
 use Rattle.theory_update.specs.Laws.{Kept, put_law, remove_law}
 use Rattle.theory_update.specs.Find.Fetching.{fetched_is}
 use Rattle.theory_ledger.specs.Small.{Small}

@@ -2,7 +2,6 @@
 use Rattle.std.specs.Prelude.{ℕ, suc, ◌≤◌, ◌<◌, ◌≡◌, Bool, true, false, List, [], ◌∷◌, ◌++◌}
 use Rattle.std.proofs.Common.{sym, ◌∙◌, append_assoc, arith}
 use Rattle.def_layout.specs.declared.Entry.{Entry}
-use Rattle.def_model.specs.Change.{first_key}
 use Rattle.def_model.specs.Fit.{after}
 use Rattle.def_model.specs.TreeRules.{Node, flat}
 use Rattle.theory_tree.specs.Order.Keys.{Rising, after_append, rising_append, rising_cut, rising_weaken, after_grows, after_mono}

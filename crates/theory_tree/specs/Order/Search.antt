@@ -1,8 +1,8 @@
 -- SEARCH IN A PAGE (02, U4): it "answers the first whose key is not below the one asked, or the count if there is none".
-use Rattle.std.specs.Prelude.{ℕ, zero, suc, ◌≤◌, ◌<◌, ◌≡◌, refl, List, [], ◌∷◌, length, ltb}
-use Rattle.std.proofs.Common.{ap, subst, arith}
+use Rattle.std.specs.Prelude.{ℕ, zero, suc, ◌≤◌, ◌<◌, ◌≡◌, List, [], ◌∷◌, length, ltb}
+use Rattle.std.proofs.Common.{arith}
 use Rattle.std.proofs.Math.Decide.{dec_lt}
-use Rattle.def_base.specs.Tests.{pick, Case, yes!, no!, case, true_lt, false_lt, lt_true, lt_false}
+use Rattle.def_base.specs.Tests.{pick, Case, yes!, no!, case, true_lt, false_lt}
 use Rattle.def_layout.specs.declared.Entry.{Entry}
 use Rattle.def_layout.specs.Entries.{key_at, place}
 use Rattle.def_layout.specs.Sizes.{room}

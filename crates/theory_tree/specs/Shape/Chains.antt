@@ -4,7 +4,6 @@ use Rattle.std.proofs.Common.{ap, arith}
 use Rattle.def_base.specs.Tests.{Case, yes!, no!, case, true_eq}
 use Rattle.def_layout.specs.declared.Entry.{Entry}
 use Rattle.def_layout.specs.Pages.{Page, kind_at, at}
-use Rattle.def_layout.specs.PageBytes.{page}
 use Rattle.def_model.specs.TreeRules.{Node, node_of, chain, first_page}
 use Rattle.theory_tree.specs.Shape.Levels.{ChainOk, chain_cut, chain_from}
 

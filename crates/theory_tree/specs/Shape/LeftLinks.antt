@@ -1,5 +1,5 @@
 -- LEFT LINKS WORKED OUT along the leaves (02, U5): they agree with the right ones, and they follow from the pages wherever every leaf is reached.
-use Rattle.std.specs.Prelude.{ℕ, zero, suc, ◌<◌, ◌≡◌, refl, ◌≢◌, ◌↔◌, Bool, true, false, ◌&&◌, get_or, set, replicate, eqb}
+use Rattle.std.specs.Prelude.{ℕ, zero, suc, ◌<◌, ◌≡◌, refl, ◌≢◌, ◌↔◌, Bool, true, false, get_or, set, replicate, eqb}
 use Rattle.std.proofs.Math.Path.{sym, ap}
 use Rattle.std.proofs.Common.{◌∙◌, subst, length-set, get_or-set_same, get_or-set_other, ext_get_or}
 use mathlib.Core.List.{List, [], ◌∷◌, ◌++◌}

@@ -1,23 +1,23 @@
 -- PREVIOUS answers what the records in the leaves say (02, U5).
-use Rattle.std.specs.Prelude.{ℕ, zero, suc, ◌-◌, ◌≤◌, ◌<◌, ◌≡◌, refl, ◌⊎◌, true, ◌&&◌, get_or, eqb, ltb}
+use Rattle.std.specs.Prelude.{ℕ, zero, suc, ◌-◌, ◌≤◌, ◌<◌, ◌≡◌, refl, ◌⊎◌, true, get_or}
 use Rattle.std.proofs.Math.Path.{sym, ap, subst}
 use Rattle.std.proofs.Common.{◌∙◌, inl, inr, arith}
 use Rattle.std.proofs.Math.Option.{Option, none, some}
 use mathlib.Core.List.{List, [], ◌∷◌, ◌++◌, append_assoc, append-nil}
 use Rattle.std.proofs.Math.ListN.{length, length-append}
 use Rattle.std.proofs.Math.Dec.{eqb-suc-zero}
-use Rattle.def_base.specs.Tests.{and_true, true_eq, lt_true, lt_false}
+use Rattle.def_base.specs.Tests.{lt_true, lt_false}
 use Rattle.def_layout.specs.declared.Entry.{Entry}
 use Rattle.def_layout.specs.Entries.{top}
 use Rattle.def_layout.specs.Pages.{Page, at}
 use Rattle.def_model.specs.Fit.{after}
-use Rattle.def_model.specs.TreeRules.{Node, flat, bottom, levels_of, leaf_records, least, root_least, tree_ok}
+use Rattle.def_model.specs.TreeRules.{Node, flat, bottom, leaf_records, least, root_least, tree_ok}
 use Rattle.def_model.specs.Links.{linked, lefts_ok}
 use Rattle.def_model.specs.Lookup.{leaf_of, or_this, last_below, last_entry, or_before, previous_by, previous_below}
 use Rattle.theory_tree.specs.Order.Keys.{Rising}
 use Rattle.theory_tree.specs.Shape.Levels.{flat_append, chain_rising, after_flat}
 use Rattle.theory_tree.specs.Shape.Chains.{All}
-use Rattle.theory_tree.specs.Shape.Trees.{Levels, all_cut, page_at}
+use Rattle.theory_tree.specs.Shape.Trees.{all_cut, page_at}
 use Rattle.theory_tree.specs.Shape.Sizes.{Sized, SizedLevel, sizes_at}
 use Rattle.theory_tree.specs.Shape.Rules.{Rules}
 use Rattle.theory_tree.specs.Shape.LeftLinks.{last_page, linked_at}

@@ -65,7 +65,7 @@ pub prefix_rules : {n : ℕ} {pages : List Page} {ls ls' : List (List Node)} (a 
 unfolding replay
 prefix_rules {n} {pages} {ls} {ls'} [] b h f k l = (ls, k, subst (λ z. Lows z pages) (sym (add-zero n)) l, subst (λ z. Lawful z pages ls b ls') (sym (add-zero n)) h)
 prefix_rules {n} {pages} {ls} {ls'} (r ∷ a) b (next {ls₁ = ls₁} j h) f k l =
-    let (m, x, y, z) = prefix_rules a b h (let g = length_redo_record n r pages in omega arith) (step_rules n pages f l ls ls₁ r j k) (lows_more n r pages l) in
+    let (m, x, y, z) = prefix_rules {n = suc n} a b h (let g = length_redo_record n r pages in omega arith) (step_rules n pages f l ls ls₁ r j k) (lows_more n r pages l) in
     let e = suc-add n (length a) ∙ sym (add-suc n (length a)) in
     (m, x, subst (λ w. Lows w (replay (suc n) a (redo_record n r pages))) e y, subst (λ w. Lawful w (replay (suc n) a (redo_record n r pages)) m b ls') e z)
 

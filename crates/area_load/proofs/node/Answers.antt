@@ -1,0 +1,6 @@
+-- `node`: the entries in use are the first.
+use Rattle.area_load.specs.Kinds.{node_typed}
+use Rattle.area_load.proofs.node.Goals as goal
+
+pub returns : goal.returns
+returns c = node_typed _ _ _ _ _ _ _ c.kind_of.ensures.0 c.kind_of.ensures.1

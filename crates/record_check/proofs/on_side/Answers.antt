@@ -1,0 +1,11 @@
+-- `on_side`: by the side.
+use Rattle.record_check.specs.Kept.{on_side}
+use Rattle.record_check.proofs.on_side.Goals as goal
+
+pub returns-then-low : goal.returns-then-low
+unfolding on_side
+returns-then-low c = rw c.if-low.true
+
+pub returns : goal.returns
+unfolding on_side
+returns c = rw c.if-low.false

@@ -1,0 +1,11 @@
+-- `lower_b_fits`: the row's tests.
+use mathlib.Core.Path.{refl, sym, ◌∙◌}
+use Rattle.record_fit.specs.Tests.{both_of}
+use Rattle.record_fit.specs.Pages.{lower_b_row}
+use Rattle.record_fit.proofs.changes.lower_b_fits.Goals as goal
+
+pub returns : goal.returns
+returns c =
+    let a = c.args in
+    both_of c.both-2.ensures c.at_level-level.ensures (both_of c.both.ensures c.same_list-same.ensures refl)
+    ∙ sym (lower_b_row a.r a.x a.n c.requires.0)

@@ -1,0 +1,19 @@
+-- `share_a_fits`: by the side that the entries go to.
+use mathlib.Core.Path.{sym, ◌∙◌}
+use Rattle.record_fit.specs.Tests.{both_of}
+use Rattle.record_fit.specs.Shares.{share_in_row, share_out_row}
+use Rattle.record_fit.proofs.changes.share_a_fits.Goals as goal
+
+pub returns-then-into_a : goal.returns-then-into_a
+returns-then-into_a c =
+    let a = c.args in
+    both_of c.both-then-into_a.ensures c.has_room-room.ensures
+    (both_of c.both.ensures c.last_joined-last.ensures
+    (both_of c.both-tail.ensures c.in_order-rising.ensures c.children_in.ensures))
+    ∙ sym (share_in_row a.r a.x a.n c.requires.0 (sym c.into_a.ensures ∙ c.if-into_a.true))
+
+pub returns : goal.returns
+returns c =
+    let a = c.args in
+    both_of c.both-2.ensures c.ends_with-ends.ensures c.last_key_is.ensures
+    ∙ sym (share_out_row a.r a.x a.n c.requires.0 c.less-k.result c.less-k.ensures (sym c.into_a.ensures ∙ c.if-into_a.false))
