@@ -1,7 +1,10 @@
+#!/usr/bin/env python3
 """The toolchain's checker, for suites that try many wrong texts: what a text does not touch is taken as it was proved, so that an edit costs seconds.
 
 `rt` checks a crate where it stands, and first all below it. Here copies of some crates are checked instead, over what `rt check` kept of them and built
-of the others (crates/*/out). What the checker is to be told of a crate is taken from `rt` itself (rtlib)."""
+of the others (crates/*/out). What the checker is to be told of a crate is taken from `rt` itself (rtlib).
+
+`tests/kit.py jobs` prints how many checks to run side by side."""
 import functools
 import importlib.util
 import os
@@ -111,3 +114,7 @@ def check(name, room, copied):
     how = {'stdin': subprocess.DEVNULL, 'stdout': subprocess.PIPE, 'stderr': subprocess.STDOUT, 'text': True, 'errors': 'replace'}
     run = subprocess.run(command, cwd=os.path.join(room, 'crates', name), **how)
     return run.returncode, run.stdout
+
+
+if __name__ == '__main__' and sys.argv[1:] == ['jobs']:
+    print(jobs())

@@ -12,6 +12,7 @@ import re
 FUNCTION = re.compile(r'^(?:fn|struct|enum) \w+?::(\S+): (.*)$', re.M)
 ERROR = re.compile(r'^(?:\S*/)?(proofs|specs|src)/(\S+?):\d+:\d+: error: `([^`]*)`: (.*(?:\n  .*)*)', re.M)
 OPEN = re.compile(r'^note: (?:\S*/)?(src/\S+?):(\d+):\d+: (it is not proved that .*)\(`([^`]*)`\)(.*)$', re.M)
+FALLEN = re.compile(r'error: \d+ declarations? that depends? on `([^`]*)`, which was (?:rejected|not admitted), (?:was|were) not checked: (.*)$', re.M)
 MODULES = re.compile(r'^crate \w+: modules loaded=(\d+) checked=(\d+)$', re.M)
 SHAPE = re.compile(r'that can be named from here|has no field|is not in scope|is no name')
 FALSE = 'allow values at which this goal is false'
@@ -28,6 +29,7 @@ class Verdict:
         self.errors = {}
         for folder, path, name, says in ERROR.findall(text):
             self.note(self.place_of(folder, path, name), 'shape' if SHAPE.search(says) else 'fact', name, says)
+        self.fallen = {name.split(' ')[0]: under for under, names in FALLEN.findall(text) for name in names.split(', ')}
         for file, line, says, name, more in OPEN.findall(text):
             for function, first, last in sources.get(file, []):
                 if first <= int(line) <= last:
@@ -55,6 +57,14 @@ class Verdict:
 
     def rests_on_refused(self, places):
         return any(RESTS in self.functions.get(place, '') for place in places)
+
+    def refused_under(self, place):
+        """The place with errors of its own that it rests on, or itself."""
+        seen = set()
+        while place in self.fallen and place not in self.errors and place not in seen:
+            seen.add(place)
+            place = self.fallen[place]
+        return place
 
     def errors_at(self, place, kind):
         return [(name, says) for k, name, says in self.errors.get(place, []) if k == kind]
