@@ -1,7 +1,11 @@
 -- `store_one`: the part of one place is copied, a page's or a slot's, and that is the k-th store.
+use borrow.Author.Rules.{rules}
 use native.Mathlib.Omega.{arith}
 use Rattle.area_store.specs.Steps.{within_at, page_made, slot_made}
 use Rattle.area_store.proofs.store_one.Goals as goal
+
+pub place_of-at-requires : goal.place_of-at-requires
+place_of-at-requires c = search rules
 
 pub overflow_mul-a : goal.overflow_mul-a
 overflow_mul-a c =

@@ -1,8 +1,12 @@
 -- `begun`: eight are open already, or a row more.
+use Rattle.std.proofs.Common.{arith}
 use mathlib.Core.Path.{sym, subst}
 use Rattle.log_chain.specs.Steps.{Steps}
 use Rattle.log_chain.specs.Families.{begun_full, begun_row}
 use Rattle.log_chain.proofs.begun.Goals as goal
+
+pub changed-requires : goal.changed-requires
+changed-requires c = omega arith
 
 pub returns-then-i-eq8 : goal.returns-then-i-eq8
 returns-then-i-eq8 c =

@@ -21,6 +21,9 @@ returns-then-not-d c =
       λ on. clash (sym on ∙ not-true _ c.if-not-d.true),
     )
 
+pub copy_slot-requires : goal.copy_slot-requires
+copy_slot-requires c = (search rules, search rules, omega arith)
+
 pub loop-i-preserved : goal.loop-i-preserved
 loop-i-preserved c =
     let l = c.loop-i in
