@@ -39,7 +39,9 @@ def below(name):
 
 
 def jobs():
-    """How many checks to run side by side."""
+    """How many checks to run side by side: RT_JOBS, or as many as there are processors and memory for."""
+    if os.environ.get('RT_JOBS', '').isdigit():
+        return int(os.environ['RT_JOBS'])
     free = next(int(line.split()[1]) for line in open('/proc/meminfo', encoding='ascii') if line.startswith('MemAvailable:'))
     return max(1, min(len(os.sched_getaffinity(0)), free // MOST_MEMORY))
 

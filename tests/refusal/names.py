@@ -45,6 +45,10 @@ def turn(folder, function, other):
     words = '|'.join(re.escape(word) for word in sorted(after, key=len, reverse=True))
     part = re.compile(rf'(?<![^-])(if|then|else)-({words})(?![^-])')
 
+    # What is known of a test `!x` has a second name, which that of a test `x` has not.
+    plain = '|'.join(re.escape(to) for name, to in other.items() if name.startswith(TEST + 'not-') and not to.startswith(TEST + 'not-'))
+    raw = re.compile(rf'\.({plain})\.(true|false)-raw(?![^\s)\]}},;])') if plain else None
+
     def turned_token(token):
         return part.sub(lambda found: f'{found[1]}-{after[found[2]]}', token[0])
 
@@ -52,5 +56,5 @@ def turn(folder, function, other):
     for file in os.listdir(top) if other and os.path.isdir(top) else ():
         if file.endswith('.antt'):
             path = os.path.join(top, file)
-            text = open(path, encoding='utf-8').read()
-            open(path, 'w', encoding='utf-8').write(TOKEN.sub(turned_token, text))
+            text = TOKEN.sub(turned_token, open(path, encoding='utf-8').read())
+            open(path, 'w', encoding='utf-8').write(raw.sub(r'.\1.\2', text) if raw else text)
