@@ -30,14 +30,14 @@ pub const MOST_ENTRIES: u32 = 14;
 pub const DESK_SIZE: usize = 136;
 
 // 01: "key 32, then a leaf's value 32, or an index's spare 22 and child 10".
-#[derive(Clone, Copy)]
+#[derive(Clone, Copy, Debug, PartialEq, Eq, Default)]
 pub struct Entry {
     pub key: u32,
     pub val: u32,
 }
 
 // 01: "batch number, last record, next record to undo, pending count".
-#[derive(Clone, Copy)]
+#[derive(Clone, Copy, Debug, PartialEq, Eq, Default)]
 pub struct Row {
     pub batch: u32,
     pub last: u32,
@@ -46,7 +46,7 @@ pub struct Row {
 }
 
 // 01: "The desk is a value with eight batch rows .. then counts of records in the working and the stable log."
-#[derive(Clone, Copy)]
+#[derive(Clone, Copy, Debug, PartialEq, Eq, Default)]
 pub struct Desk {
     pub rows: [Row; 8],
     pub logged: u32,

@@ -29,3 +29,12 @@ pub const LEFT_UNIT: u32 = 4;
 pub const LEAF: u32 = 1;
 
 pub const OWN_UNIT: u32 = 4194304;
+
+// 01: "kind 2 (0 free, 1 leaf, 2 index, 3 map)".
+#[derive(Clone, Copy, Debug, PartialEq, Eq)]
+pub enum PageKind {
+    Free,
+    Leaf,
+    Index,
+    Map,
+}
