@@ -6,7 +6,8 @@ use Rattle.def_base.specs.Tests.{pick, eq_true}
 use Rattle.def_layout.specs.declared.Entry.{Entry}
 use Rattle.def_layout.specs.Entries.{entry_at}
 use Rattle.def_layout.specs.Numbers.{tab}
-use Rattle.def_layout.specs.Pages.{Page, PageKind, page_kind, kind_at, node_at}
+use Rattle.def_layout.specs.Pages.{Page, page_kind, kind_at, node_at}
+use Rattle.def_layout.specs.declared.page.PageKind.{PageKind}
 use Rattle.codec_page.specs.Shown.{program_page}
 use Rattle.codec_page.specs.Typed.{typed, used_entries_node, used_marks_node}
 

@@ -9,7 +9,9 @@ use Rattle.std.proofs.Math.ListN.{take}
 use Rattle.def_base.specs.Tests.{pick, neq_false}
 use Rattle.def_layout.specs.declared.Entry.{Entry}
 use Rattle.def_layout.specs.Entries.{entry, entry_at, top, insert_sorted, remove_key}
-use Rattle.def_layout.specs.Pages.{Page, PageKind, page_kind, index, kind_at, node_at, freed}
+use Rattle.def_layout.specs.Pages.{Page, page_kind, kind_at, node_at, freed}
+use Rattle.def_layout.specs.declared.page.PageKind.{PageKind}
+use Rattle.def_layout.specs.declared.page.PageKind.TheVariants.{Index}
 use Rattle.def_layout.specs.Records.{Kind, kind_of}
 use Rattle.law_bytes.specs.Tables.{tab_length}
 use Rattle.law_bytes.specs.Ranges.{Run, in_run, past}
@@ -45,7 +47,7 @@ unfolding entries_in cut_to_size page_kind
 raised level own k c b l y q e =
     let s : (level % 16 + 1) % 16 ≡ suc level % 16 = omega arith in
     let z : eqb (suc level) 0 ≡ false = neq_false (λ (o : suc level ≡ 0). omega arith) in
-    e ∙ ap₂ (λ (n : ℕ) (m : List Entry). record { kind = index; level = n; right = 0; high = top; lsn = 0; own = own; entries = m; marks = [] }) s q
+    e ∙ ap₂ (λ (n : ℕ) (m : List Entry). record { kind = Index; level = n; right = 0; high = top; lsn = 0; own = own; entries = m; marks = [] }) s q
     ∙ sym (rw z)
 
 -- ---- A

@@ -9,7 +9,8 @@ use Rattle.def_base.specs.Tests.{le_true}
 use Rattle.def_layout.specs.declared.Entry.{Entry}
 use Rattle.def_layout.specs.Entries.{entry_at, key_at}
 use Rattle.def_layout.specs.Numbers.{tab}
-use Rattle.def_layout.specs.Pages.{Page, PageKind, page_kind, freed, map_bits}
+use Rattle.def_layout.specs.Pages.{Page, page_kind, freed, map_bits}
+use Rattle.def_layout.specs.declared.page.PageKind.{PageKind}
 use Rattle.def_layout.specs.Records.{Rec}
 use Rattle.law_bytes.specs.Tables.{tab_length}
 use Rattle.law_bytes.specs.EntryBytes.{used}

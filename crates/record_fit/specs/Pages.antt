@@ -7,7 +7,9 @@ use Rattle.std.proofs.Math.Dec.{eqb}
 use Rattle.def_base.specs.Tests.{neq_false}
 use Rattle.def_layout.specs.declared.Entry.{Entry}
 use Rattle.def_layout.specs.Entries.{entry_at, look, same_entries}
-use Rattle.def_layout.specs.Pages.{PageKind, free, page_kind, kind_is, kind_at}
+use Rattle.def_layout.specs.Pages.{page_kind, kind_is, kind_at}
+use Rattle.def_layout.specs.declared.page.PageKind.{PageKind}
+use Rattle.def_layout.specs.declared.page.PageKind.TheVariants.{Free}
 use Rattle.def_layout.specs.Records.{insert, delete, undo_insert, undo_delete, split, link, unlink, merge, raise, lower}
 use Rattle.law_bytes.specs.Tables.{tab_length}
 use Rattle.law_bytes.specs.EntryBytes.{used}
@@ -30,7 +32,7 @@ module _ (x : program.Page) where
   unfolding typed page_kind
   index_is = kind_tested x.kind 2 (omega arith)
 
-  pub free_is : eqb x.kind 0 ≡ kind_is (typed x).kind free
+  pub free_is : eqb x.kind 0 ≡ kind_is (typed x).kind Free
   unfolding typed page_kind
   free_is = kind_tested x.kind 0 (omega arith)
 

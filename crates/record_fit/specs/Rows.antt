@@ -8,7 +8,8 @@ use Rattle.std.proofs.Math.Bool.{true, false, not}
 use mathlib.Core.List.{List, []}
 use Rattle.std.proofs.Math.ListN.{get_or-eq_default}
 use Rattle.def_base.specs.Tests.{pick}
-use Rattle.def_layout.specs.Pages.{free, kind_is, map_bits}
+use Rattle.def_layout.specs.Pages.{kind_is, map_bits}
+use Rattle.def_layout.specs.declared.page.PageKind.TheVariants.{Free}
 use Rattle.def_layout.specs.Records.{Kind, kind_of}
 use Rattle.law_bytes.specs.Tables.{tab_length, getD_tab}
 use Rattle.law_bytes.specs.Ranges.{past}
@@ -123,7 +124,7 @@ module _ (r : Record) (x : program.Page) (t : Bool) where
     unfolding fits_role role_at
     part_b k e = by_part (e ∙ ap (λ (n : ℕ). fits_role (rec r) (role_at n) (typed x)) (sym k))
 
-    pub part_c : o ≡ 3 → t ≡ kind_is (typed x).kind free → t ≡ fits p (rec r) (typed x)
+    pub part_c : o ≡ 3 → t ≡ kind_is (typed x).kind Free → t ≡ fits p (rec r) (typed x)
     unfolding fits_role role_at
     part_c k e = by_part (e ∙ ap (λ (n : ℕ). fits_role (rec r) (role_at n) (typed x)) (sym k))
 

@@ -1,7 +1,8 @@
 // Tests on a page as a whole: its kind, its level, its room, and what may stand in it.
 ghost use Rattle.std.specs.Prelude.{◌≡◌, suc, ◌+◌, ◌≤◌, eqb, leb};
 ghost use Rattle.def_layout.specs.Sizes.{room};
-ghost use Rattle.def_layout.specs.Pages.{kind_is, free};
+ghost use Rattle.def_layout.specs.Pages.{kind_is};
+ghost use Rattle.def_layout.specs.declared.page.PageKind.TheVariants.{Free};
 ghost use Rattle.def_model.specs.Fit.{is_leaf, is_index, is_node, at_level, children_in};
 ghost use Rattle.law_bytes.specs.EntryBytes.{used};
 ghost use Rattle.codec_page.specs.Typed.{typed};
@@ -34,7 +35,7 @@ pub fn is_index(x: Page) -> bool
 }
 
 pub fn is_free(x: Page) -> bool
-    ensures { result ≡ kind_is (typed x).kind free }
+    ensures { result ≡ kind_is (typed x).kind Free }
 {
     x.kind == 0
 }
