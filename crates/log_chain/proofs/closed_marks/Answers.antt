@@ -1,7 +1,6 @@
 -- `closed_marks`: mark by mark by the rule.
 use borrow.Author.Rules.{rules}
 use native.Mathlib.Omega.{arith}
-use Prim.Native.Nat.{◌-◌}
 use mathlib.Core.Path.{refl}
 use Rattle.law_bytes.specs.Tables.{tab_none, tab_step, tab_end}
 use Rattle.log_chain.proofs.closed_marks.Goals as goal
