@@ -104,7 +104,8 @@ pub fn write_page(b: &mut [u8], p: Page)
     write_entries(b, page::ENTRIES_AT, es, to_write(p));
 }
 
-// The page that stands in an area from byte `a` on.
+// The page that stands in an area from byte `a` on. (codec_slot has the same of slots: one generic pair would need a trait with three ghost members, and
+// be longer than the four lines.)
 pub fn read_at(pages: &[u8], a: usize) -> Page
     requires { a + page_size ≤ length pages.now }
     ensures { (typed result ≡ page_fields (part pages.now a page_size)) × (result ≡ shown_page (part pages.now a page_size)) }
@@ -248,7 +249,7 @@ fn is_clear(es: [Entry; ROOM], i: usize) -> bool
     map_word(es, i / 32) == 0
 }
 
-// Whether no page from the n-th on is marked.
+// Whether no page from the n-th on is marked. The index steps by hand: by a word of 32 where that is clear, which a `for` cannot do.
 pub fn unmarked_from(es: [Entry; ROOM], n: usize) -> bool
     ensures { result ≡ unmarked_from n es }
 {
