@@ -65,22 +65,14 @@ find_zero log (b ∷ bs) h = rw (neq_false {a = 0} {b = b.number} (λ e. omega (
 pub place_zero : (rs : List Row) (n : ℕ) → n ≡ 0 → Places rs n None
 place_zero rs n z log bs h s = ap (λ (k : ℕ). find_batch k bs) z ∙ find_zero log bs h.sits
 
-placed_row : (rs : List Row) (n p : ℕ) → (n ≡ 0 → ⊥) → p ≡ place_of n rs → (log : List Rec) (bs : List Batch) → Holds log bs → rs ≡ eight_rows (map row_of bs) → Placed n bs p 8
-placed_row rs n p z e log bs h s = subst (λ (k : ℕ). Placed n bs k 8) (sym (e ∙ ap (place_of n) s)) (placed n bs h.few z)
-
-pub place_none : (rs : List Row) (n p : ℕ) → (n ≡ 0 → ⊥) → p ≡ place_of n rs → p ≡ 8 → Places rs n None
-place_none rs n p z e q log bs h s = go (placed_row rs n p z e log bs h s)
+pub place_row : (rs : List Row) (n : ℕ) (p : Option ℕ) → (n ≡ 0 → ⊥) → MatchOption p (place_of n rs ≡ 8) (λ i. (i ≡ place_of n rs) × (i < 8)) → Places rs n p
+place_row rs n p z e log bs h s = go p e (subst (λ (k : ℕ). Placed n bs k 8) (sym (ap (place_of n) s)) (placed n bs h.few z))
   where
-    go : Placed n bs p 8 → find_batch n bs ≡ none
-    go (found l f) = absurd (omega arith)
-    go (absent _ y) = y
-
-pub place_row : (rs : List Row) (n p : ℕ) → (n ≡ 0 → ⊥) → p ≡ place_of n rs → (p ≡ 8 → ⊥) → Places rs n (Some p)
-place_row rs n p z e q log bs h s = go (placed_row rs n p z e log bs h s)
-  where
-    go : Placed n bs p 8 → (p < 8) × Found n bs p
-    go (found l f) = (l, f)
-    go (absent y _) = absurd (q y)
+    go : (p : Option ℕ) → MatchOption p (place_of n rs ≡ 8) (λ i. (i ≡ place_of n rs) × (i < 8)) → Placed n bs (place_of n rs) 8 → PlacedAt n bs p
+    go None e (found l f) = absurd (omega arith)
+    go None e (absent _ y) = y
+    go (Some i) e (found l f) = (e.1, subst (Found n bs) (sym e.0) f)
+    go (Some i) e (absent y _) = absurd (omega (arith, e))
 
 -- What the program has at the place.
 module _ (o : Batches) (n p : ℕ) (bs : List Batch) (s : Shows bs o) (f : Found n bs p) (l : p < 8) (w : length bs ≤ 8) where

@@ -12,7 +12,7 @@ ghost use Rattle.log_chain.specs.Steps.{Places, GoesOn, Steps};
 ghost use Rattle.log_chain.specs.Families.{longer_row};
 ghost use Rattle.log_chain.specs.Undos.{StepsIn, line_undone};
 
-use codec_desk::{closed, new_row, row_place, used_rows};
+use codec_desk::{closed, closed_up, new_row, row_place, used_rows};
 use def_layout::Row;
 use log_pending::{Line, line_at};
 
@@ -42,11 +42,7 @@ fn open_place(batches: &Batches, batch: u32) -> Option<usize>
     if batch == 0 {
         return None;
     }
-    let i = row_place(batches.rows, batch);
-    if i == 8 {
-        return None;
-    }
-    Some(i)
+    row_place(batches.rows, batch)
 }
 
 // The place of the record's batch, if that has no abort mark and the record names its last one.
@@ -64,37 +60,13 @@ pub fn going_on(batches: &Batches, t: Told) -> Option<usize>
     Some(i)
 }
 
-fn keep_mark(marked: [bool; 8], i: usize, k: usize) -> bool
-    requires { k < 8 }
-    ensures { result ≡ closing false marked i k }
-{
-    if k < i {
-        return marked[k];
-    }
-    if k < 7 {
-        return marked[k + 1];
-    }
-    false
-}
-
-// Mark i goes, and the rest close up.
-fn closed_marks(marked: [bool; 8], i: usize) -> [bool; 8]
-    ensures { result ≡ tab 8 (closing false marked i) }
-{
-    let mut r = [false; 8];
-    for k in 0..8 {
-        r[k] = keep_mark(marked, i, k);
-    }
-    r
-}
-
 // The batch at place i is no longer open.
 fn dropped(batches: Batches, i: usize) -> Batches
     ensures { result ≡ batches_of (without batches.rows i) (tab 8 (closing false batches.marked i)) }
 {
     Batches {
         rows: closed(batches.rows, i),
-        marked: closed_marks(batches.marked, i),
+        marked: closed_up(batches.marked, i, false),
     }
 }
 

@@ -140,4 +140,4 @@ first_place (r ∷ rs) n e = rw (eq_true r.batch n e)
 
 pub first_goes : (o : Batches) (t : Told) → (t.batch ≡ 0 → ⊥) → (row_at o.rows 0).batch ≡ t.batch → get_or o.marked 0 false ≡ false → (row_at o.rows 0).last ≡ t.previous
     → GoesOn o t (Some 0)
-first_goes o t z e k v = going_on o t 0 (place_row o.rows t.batch 0 z (first_place o.rows t.batch e) (λ q. absurd (omega arith))) k v
+first_goes o t z e k v = going_on o t 0 (place_row o.rows t.batch (Some 0) z (first_place o.rows t.batch e, omega arith)) k v

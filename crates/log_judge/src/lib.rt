@@ -105,15 +105,7 @@ pub fn judge_log(log: &[u8], m: usize, n: usize) -> Option<Said>
         marked: [false; 8],
     };
     for i in 0..m {
-        if let Some(row) = alone(
-            log,
-            m,
-            n,
-            i,
-            batches.rows[0],
-            batches.marked[0],
-            batches.rows[1].batch,
-        ) {
+        if let Some(row) = alone(log, m, n, i, &batches) {
             batches.rows[0] = row;
             continue;
         }

@@ -7,4 +7,4 @@ use Rattle.log_chain.specs.Shown.{batches_of}
 use Rattle.log_chain.proofs.dropped.Goals as goal
 
 pub returns : goal.returns
-returns c = ap₂ (λ (rs : List Row) (ms : List Bool). batches_of rs ms) c.closed.ensures c.closed_marks.ensures
+returns c = ap₂ (λ (rs : List Row) (ms : List Bool). batches_of rs ms) c.closed.ensures c.closed_up.ensures

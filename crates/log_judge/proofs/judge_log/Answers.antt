@@ -1,6 +1,6 @@
 -- `judge_log`: before slot i the records so far are in order, and the rows and marks show their batches.
 use native.Mathlib.Omega.{arith}
-use mathlib.Core.Path.{sym, refl, ◌∙◌}
+use mathlib.Core.Path.{sym, ◌∙◌}
 use Rattle.log_chain.specs.Shown.{shows_none}
 use Rattle.log_judge.specs.Updates.{plain_full}
 use Rattle.log_judge.specs.Turns.{update_halts, update_goes}
@@ -15,13 +15,13 @@ alone-requires c =
     let a = c.args in
     let l = c.loop-i in
     let q = c.requires in
-    (q, c.loop-i-test.true, going_low a.n a.m a.log.now l.i l.batches q.1 l.invariant 0)
+    (q, c.loop-i-test.true, going_low a.n a.m a.log.now l.i l.batches q.1 l.invariant)
 
 pub loop-i-preserved-in-Some : goal.loop-i-preserved-in-Some
 loop-i-preserved-in-Some c =
     let a = c.args in
     let l = c.loop-i in
-    going_on a.n a.m a.log.now l.i l.batches l.invariant c.loop-i-test.true _ (c.in-Some.ensures l.batches refl refl refl)
+    going_on a.n a.m a.log.now l.i l.batches l.invariant c.loop-i-test.true _ c.in-Some.ensures
 
 pub returns-in_err-p : goal.returns-in_err-p
 returns-in_err-p c =

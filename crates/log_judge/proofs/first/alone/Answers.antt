@@ -2,8 +2,5 @@
 use Rattle.log_judge.specs.Alone.{alone_change}
 use Rattle.log_judge.proofs.first.alone.Goals as goal
 
-pub returns-in-Some : goal.returns-in-Some
-returns-in-Some c = c.in-Some.ensures c.args.next
-
 pub returns-then-is_change : goal.returns-then-is_change
-returns-then-is_change c o er em en = let a = c.args in alone_change a.n a.m a.log.now a.i a.row o er (c.is_change.ensures c.if-is_change.true o)
+returns-then-is_change c = let a = c.args in alone_change a.n a.m a.log.now a.i a.batches.now (c.is_change.ensures c.if-is_change.true a.batches.now)

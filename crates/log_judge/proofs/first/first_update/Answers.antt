@@ -3,8 +3,10 @@ use borrow.Author.Tests.{not-false}
 use Rattle.log_judge.specs.Alone.{alone_update}
 use Rattle.log_judge.proofs.first.first_update.Goals as goal
 
+pub longer-requires : goal.longer-requires
+longer-requires c = c.requires.2 0
+
 pub returns : goal.returns
-returns c next o er em en =
+returns c =
     let a = c.args in
-    let f = c.goes_on_first.ensures (not-false _ c.if-not-goes_on_first.false-raw) in
-    alone_update a.n a.m a.log.now a.i a.row a.marked next _ _ o er em en f.0 f.1 f.2 f.3 c.in_ok-t.ensures c.longer.ensures
+    alone_update a.n a.m a.log.now a.i _ a.batches.now _ (c.goes_on_first.ensures (not-false _ c.if-not-goes_on_first.false-raw)) c.in_ok-t.ensures c.longer.ensures
