@@ -33,10 +33,7 @@ fn searched(x: Page) -> u8
     if x.kind >= 3 {
         return 0;
     }
-    if x.count >= MOST_ENTRIES {
-        return 14;
-    }
-    x.count as u8
+    x.count.min(MOST_ENTRIES) as u8
 }
 
 // The first entry of a page whose key is not below k.
@@ -131,11 +128,9 @@ fn leaf_of(pages: &[u8], n: usize, k: u32) -> Node
     ensures { shows result (leaf_of k (pages_of n pages.now)) (pages_of n pages.now) }
 {
     let root = nth_page(pages, n, 1);
-    let mut l = root.level;
     let mut p = 1;
-    while l > 0 {
+    for _ in 0..root.level {
         p = child_for(pages, n, k, p);
-        l -= 1;
     }
     covering(pages, n, k, p)
 }
