@@ -8,7 +8,7 @@ use Rattle.std.proofs.Math.Option.{Option, none, some}
 use Rattle.std.proofs.Math.ListN.{get_or-eq_default}
 use Rattle.def_base.specs.Tests.{pick, Case, yes!, no!, case, true_lt, lt_true, le_true, le_false}
 use Rattle.def_layout.specs.declared.Entry.{Entry}
-use Rattle.def_layout.specs.Entries.{entry, entry_at, no_entry, place, seek}
+use Rattle.def_layout.specs.Entries.{entry_at, no_entry, place, seek}
 use Rattle.def_layout.specs.Numbers.{tab}
 use Rattle.law_bytes.specs.Tables.{tab_length}
 use Rattle.law_bytes.specs.EntryBytes.{used, used_in}
@@ -86,7 +86,7 @@ module _ (x : program.Page) (k : ℕ) (l : length x.entries ≡ 14) where
       ]
 
   -- The two ends of the program's search.
-  pub seek_at : (n i : ℕ) → n ≡ searched x → i ≡ place k (used n es) → i < n → some (entry (entry_at es i).key (entry_at es i).val) ≡ seek k (typed x).entries
+  pub seek_at : (n i : ℕ) → n ≡ searched x → i ≡ place k (used n es) → i < n → some (entry_at es i) ≡ seek k (typed x).entries
   seek_at n i e p h =
       let q : i < length (used n es) = omega (arith, tab_length n (entry_at es)) in
       sym
@@ -111,6 +111,6 @@ module _ (x : program.Page) where
   unfolding first_of tab
   first_none h e = sym (ap first_of (typed_entries x h ∙ ap (λ (m : ℕ). used m x.entries) e))
 
-  pub first_at : x.kind < 3 → (x.count ≡ 0 → ⊥) → some (entry (entry_at x.entries 0).key (entry_at x.entries 0).val) ≡ first_of (typed x).entries
+  pub first_at : x.kind < 3 → (x.count ≡ 0 → ⊥) → some (entry_at x.entries 0) ≡ first_of (typed x).entries
   unfolding first_of
   first_at h n = sym (ap first_of (typed_entries x h ∙ used_cons x.entries x.count 0 (omega arith)))
