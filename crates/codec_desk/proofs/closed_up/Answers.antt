@@ -1,7 +1,7 @@
 -- `closed_up`: element by element by the rule.
 use Rattle.std.proofs.Common.{rules}
 use Rattle.law_bytes.specs.Eights.{closing}
-use Rattle.codec_desk.proofs.Arrays.{made}
+use Rattle.codec_bytes.specs.Made.{made}
 use Rattle.codec_desk.proofs.closed_up.Goals as goal
 
 pub returns : goal.returns

@@ -2,7 +2,7 @@
 use Rattle.std.proofs.Common.{rules}
 use Rattle.def_layout.specs.Desks.{no_row, read_row}
 use Rattle.law_bytes.specs.DeskBytes.{desk_parts}
-use Rattle.codec_desk.proofs.Arrays.{made}
+use Rattle.codec_bytes.specs.Made.{made}
 use Rattle.codec_desk.proofs.get_desk.Goals as goal
 
 pub returns : goal.returns
