@@ -245,17 +245,12 @@ fn descend_remove(wp: &mut [u8], wl: &mut [u8], n: usize, m: usize, t: Run, k: u
     ensures { DoesAt n m wp wl t result (λ (s : model.Run). model.descend_remove (layout.at s.pages 1).level k 1 s) }
 {
     let root = page_at(wp, n, 1);
-    let mut l = root.level;
-    let mut run = t;
-    let mut page = 1;
-    while l > 0 {
-        let d = direct(wp, wl, n, m, run, k, page);
-        let a = step(wp, wl, n, m, d, k);
-        run = a.run;
-        page = a.page;
-        l -= 1;
+    let mut at = At { run: t, page: 1 };
+    for _ in 0..root.level {
+        let d = direct(wp, wl, n, m, at.run, k, at.page);
+        at = step(wp, wl, n, m, d, k);
     }
-    At { run, page }
+    at
 }
 
 // A REMOVAL: a delete or an undo-insert.
