@@ -15,8 +15,8 @@ direct-d-requires c =
     let i = c.loop.invariant in
     (omega (arith, p, i.0), p.1, omega (arith, p, i.1), p.3)
 
-pub step-a-requires : goal.step-a-requires
-step-a-requires c =
+pub step-at-requires : goal.step-at-requires
+step-at-requires c =
     let p = c.requires in
     let i = c.loop.invariant in
     let d = c.direct-d.auto in
@@ -27,7 +27,7 @@ loop-preserved c =
     let a = c.args in
     let l = c.loop in
     let d = c.direct-d in
-    let e = c.step-a in
+    let e = c.step-at in
     (e.auto.wp ∙ d.auto.wp ∙ l.invariant.0, e.auto.wl ∙ d.auto.wl ∙ l.invariant.1, down_step a.k _ _ l.at.page _ _ e.result (omega arith) l.invariant.2 (λ s h. e.ensures (direct a.k l.at.page s) (d.ensures s h)))
 
 pub shape_of-wp : goal.shape_of-wp
