@@ -1,5 +1,5 @@
 -- Search in a page whatever its count: the entries past the fourteenth are zero, so that no search stops at them.
-use Rattle.std.specs.Prelude.{◌≡◌, ℕ, zero, suc, ◌<◌, ◌≤◌, length, ltb, leb}
+use Rattle.std.specs.Prelude.{◌≡◌, ℕ, zero, suc, ◌<◌, ◌≤◌, length, ltb, leb, min}
 use Rattle.std.proofs.Math.Path.{ap, sym}
 use Rattle.std.proofs.Common.{◌∙◌, arith}
 use Rattle.std.proofs.Math.Decide.{dec_lt}
@@ -8,7 +8,7 @@ use Rattle.std.proofs.Math.Option.{Option, none, some}
 use Rattle.std.proofs.Math.ListN.{get_or-eq_default}
 use Rattle.def_base.specs.Tests.{pick, Case, yes!, no!, case, true_lt, lt_true, le_true, le_false}
 use Rattle.def_layout.specs.declared.Entry.{Entry}
-use Rattle.def_layout.specs.Entries.{entry, entry_at, no_entry, place, seek}
+use Rattle.def_layout.specs.Entries.{entry_at, no_entry, place, seek}
 use Rattle.def_layout.specs.Numbers.{tab}
 use Rattle.law_bytes.specs.Tables.{tab_length}
 use Rattle.law_bytes.specs.EntryBytes.{used, used_in}
@@ -21,19 +21,21 @@ use Rattle.codec_page.specs.Shown.{typed_entries}
 
 -- How many entries the search goes over.
 unfoldable pub searched : program.Page → ℕ
-searched x = pick (leb 3 x.kind) 0 (pick (leb 14 x.count) 14 x.count)
+searched x = pick (leb 3 x.kind) 0 (min x.count 14)
 
 pub searched_map : (x : program.Page) → 3 ≤ x.kind → searched x ≡ 0
 unfolding searched
 searched_map x h = rw (le_true 3 x.kind h)
 
-pub searched_all : (x : program.Page) → x.kind < 3 → 14 ≤ x.count → searched x ≡ 14
+pub searched_node : (x : program.Page) → x.kind < 3 → searched x ≡ min x.count 14
 unfolding searched
-searched_all x h l = rw (le_false 3 x.kind h, le_true 14 x.count l)
+searched_node x h = rw (le_false 3 x.kind h)
+
+pub searched_all : (x : program.Page) → x.kind < 3 → 14 ≤ x.count → searched x ≡ 14
+searched_all x h l = searched_node x h ∙ omega (arith, l)
 
 pub searched_used : (x : program.Page) → x.kind < 3 → x.count < 14 → searched x ≡ x.count
-unfolding searched
-searched_used x h l = rw (le_false 3 x.kind h, le_false 14 x.count l)
+searched_used x h l = searched_node x h ∙ omega (arith, l)
 
 -- ---- zeros at the end
 
@@ -86,7 +88,7 @@ module _ (x : program.Page) (k : ℕ) (l : length x.entries ≡ 14) where
       ]
 
   -- The two ends of the program's search.
-  pub seek_at : (n i : ℕ) → n ≡ searched x → i ≡ place k (used n es) → i < n → some (entry (entry_at es i).key (entry_at es i).val) ≡ seek k (typed x).entries
+  pub seek_at : (n i : ℕ) → n ≡ searched x → i ≡ place k (used n es) → i < n → some (entry_at es i) ≡ seek k (typed x).entries
   seek_at n i e p h =
       let q : i < length (used n es) = omega (arith, tab_length n (entry_at es)) in
       sym
@@ -111,6 +113,6 @@ module _ (x : program.Page) where
   unfolding first_of tab
   first_none h e = sym (ap first_of (typed_entries x h ∙ ap (λ (m : ℕ). used m x.entries) e))
 
-  pub first_at : x.kind < 3 → (x.count ≡ 0 → ⊥) → some (entry (entry_at x.entries 0).key (entry_at x.entries 0).val) ≡ first_of (typed x).entries
+  pub first_at : x.kind < 3 → (x.count ≡ 0 → ⊥) → some (entry_at x.entries 0) ≡ first_of (typed x).entries
   unfolding first_of
   first_at h n = sym (ap first_of (typed_entries x h ∙ used_cons x.entries x.count 0 (omega arith)))

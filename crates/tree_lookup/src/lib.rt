@@ -10,27 +10,13 @@ ghost use Rattle.law_bytes.specs.AreaSizes.{HasPages};
 ghost use Rattle.codec_page.specs.Typed.{typed};
 ghost use Rattle.law_bytes.specs.PageAreas.{pages_of, lefts_of};
 ghost use Rattle.law_areas.specs.Pages.{AllPagesFit};
-ghost use Rattle.tree_lookup.specs.Answers.{value_of, slide_of, shows};
+ghost use Rattle.tree_lookup.specs.Answers.{option_of, shows};
 ghost use Rattle.tree_lookup.specs.Searched.{searched};
-ghost use Rattle.tree_lookup.specs.Backwards.{Short};
+ghost use Rattle.tree_lookup.specs.Backwards.{Short, preceding};
 
 use codec_entries::find;
 use codec_page::{Page, left_of, nth_page};
-use def_layout::{Entry, MOST_ENTRIES};
-
-// The value that is filed under a key.
-#[derive(Clone, Copy)]
-pub enum Value {
-    Absent,
-    Is(u32),
-}
-
-// A slide's key and value.
-#[derive(Clone, Copy)]
-pub enum Slide {
-    Absent,
-    Is(u32, u32),
-}
+use def_layout::{Entry, MOST_ENTRIES, ROOM};
 
 // A page of an area, and its number there.
 #[derive(Clone, Copy)]
@@ -47,87 +33,68 @@ fn searched(x: Page) -> u8
     if x.kind >= 3 {
         return 0;
     }
-    if x.count >= MOST_ENTRIES {
-        return 14;
-    }
-    x.count as u8
+    x.count.min(MOST_ENTRIES) as u8
 }
 
 // The first entry of a page whose key is not below k.
-fn seek_in(x: Page, k: u32) -> Slide
-    ensures { slide_of result ≡ seek k (typed x).entries }
+fn seek_in(x: Page, k: u32) -> Option<Entry>
+    ensures { option_of result ≡ seek k (typed x).entries }
 {
     let n = searched(x);
     let es = x.entries;
     let i = find(es, n, k);
-    if i < n {
-        return Slide::Is(es[i as usize].key, es[i as usize].val);
-    }
-    Slide::Absent
+    if i < n { Some(es[i as usize]) } else { None }
 }
 
 // The value that a page has under k.
-fn look_in(x: Page, k: u32) -> Value
-    ensures { value_of result ≡ look k (typed x).entries }
+fn look_in(x: Page, k: u32) -> Option<u32>
+    ensures { option_of result ≡ look k (typed x).entries }
 {
-    let Slide::Is(key, val) = seek_in(x, k) else {
-        return Value::Absent;
-    };
-    if key == k {
-        return Value::Is(val);
-    }
-    Value::Absent
+    let e = seek_in(x, k)?;
+    if e.key == k { Some(e.val) } else { None }
 }
 
 // The entry of a page that leads to k.
 pub fn entry_for(x: Page, k: u32) -> Entry
     ensures { result ≡ entry_for k (typed x).entries }
 {
-    let Slide::Is(key, val) = seek_in(x, k) else {
-        return Entry { key: 0, val: 0 };
-    };
-    Entry { key, val }
+    seek_in(x, k).unwrap_or_default()
 }
 
 // A page's first entry.
-fn first_of(x: Page) -> Slide
-    ensures { slide_of result ≡ first_of (typed x).entries }
+fn first_of(x: Page) -> Option<Entry>
+    ensures { option_of result ≡ first_of (typed x).entries }
 {
-    if x.kind >= 3 {
-        return Slide::Absent;
-    }
-    if x.count == 0 {
-        return Slide::Absent;
+    if x.kind >= 3 || x.count == 0 {
+        return None;
     }
     let es = x.entries;
-    Slide::Is(es[0].key, es[0].val)
+    Some(es[0])
+}
+
+// The entry before place i.
+pub fn before(es: [Entry; ROOM], i: u8) -> Option<Entry>
+    requires { i ≤ room }
+    ensures { option_of result ≡ preceding i es }
+{
+    if i == 0 {
+        return None;
+    }
+    Some(es[i as usize - 1])
 }
 
 // The last entry of a page whose key is below k.
-fn last_below(x: Page, k: u32) -> Slide
-    ensures { Short x → slide_of result ≡ last_below k (typed x).entries }
+fn last_below(x: Page, k: u32) -> Option<Entry>
+    ensures { Short x → option_of result ≡ last_below k (typed x).entries }
 {
-    let n = searched(x);
-    let es = x.entries;
-    let i = find(es, n, k);
-    if i == 0 {
-        return Slide::Absent;
-    }
-    let e = es[i as usize - 1];
-    Slide::Is(e.key, e.val)
+    before(x.entries, find(x.entries, searched(x), k))
 }
 
 // A page's last entry.
-fn last_of(x: Page) -> Slide
-    ensures { Short x → slide_of result ≡ last_entry (typed x).entries }
+fn last_of(x: Page) -> Option<Entry>
+    ensures { Short x → option_of result ≡ last_entry (typed x).entries }
 {
-    let n = searched(x);
-    if n == 0 {
-        return Slide::Absent;
-    }
-    let es = x.entries;
-    let e = es[n as usize - 1];
-    Slide::Is(e.key, e.val)
+    before(x.entries, searched(x))
 }
 
 // The page covering k: page p, or the page after it.
@@ -161,53 +128,47 @@ fn leaf_of(pages: &[u8], n: usize, k: u32) -> Node
     ensures { shows result (leaf_of k (pages_of n pages.now)) (pages_of n pages.now) }
 {
     let root = nth_page(pages, n, 1);
-    let mut l = root.level;
     let mut p = 1;
-    while l > 0 {
+    for _ in 0..root.level {
         p = child_for(pages, n, k, p);
-        l -= 1;
     }
     covering(pages, n, k, p)
 }
 
 // 01: "Fetch answers a key's value."
-pub fn fetched(pages: &[u8], n: usize, k: u32) -> Value
+pub fn fetched(pages: &[u8], n: usize, k: u32) -> Option<u32>
     requires { HasPages n pages.now }
-    ensures { value_of result ≡ fetched k (pages_of n pages.now) }
+    ensures { option_of result ≡ fetched k (pages_of n pages.now) }
 {
     look_in(leaf_of(pages, n, k).page, k)
 }
 
 // 01: "Next answers the first record above a key." In the leaf that covers the key after it, or else first in the leaf after that one.
-pub fn next_above(pages: &[u8], n: usize, k: u32) -> Slide
+pub fn next_above(pages: &[u8], n: usize, k: u32) -> Option<Entry>
     requires { HasPages n pages.now }
-    ensures { slide_of result ≡ next_above k (pages_of n pages.now) }
+    ensures { option_of result ≡ next_above k (pages_of n pages.now) }
 {
-    if k >= 4294967295 {
-        return Slide::Absent;
-    }
-    let above = k + 1;
+    let above = k.checked_add(1)?;
     let x = leaf_of(pages, n, above).page;
-    let Slide::Is(key, val) = seek_in(x, above) else {
-        return first_of(nth_page(pages, n, x.right as usize));
-    };
-    Slide::Is(key, val)
+    match seek_in(x, above) {
+        Some(e) => Some(e),
+        None => first_of(nth_page(pages, n, x.right as usize)),
+    }
 }
 
 // 02, U5: "previous", the mirror of next. In the leaf that covers the key before it, or else last in the leaf to the left of that one. (No page has more
 // than 14 entries.)
-pub fn previous_below(pages: &[u8], n: usize, k: u32) -> Slide
+pub fn previous_below(pages: &[u8], n: usize, k: u32) -> Option<Entry>
     requires { HasPages n pages.now }
-    ensures { AllPagesFit (pages_of n pages.now) → slide_of result ≡ previous_below k (pages_of n pages.now) (lefts_of n pages.now) }
+    ensures { AllPagesFit (pages_of n pages.now) → option_of result ≡ previous_below k (pages_of n pages.now) (lefts_of n pages.now) }
 {
-    if k == 0 {
-        return Slide::Absent;
+    let below = k.checked_sub(1)?;
+    let leaf = leaf_of(pages, n, below);
+    match last_below(leaf.page, k) {
+        Some(e) => Some(e),
+        None => {
+            let left = left_of(pages, n, leaf.number);
+            last_of(nth_page(pages, n, left as usize))
+        }
     }
-    let x = leaf_of(pages, n, k - 1);
-    let leaf = x.page;
-    let Slide::Is(key, val) = last_below(leaf, k) else {
-        let left = left_of(pages, n, x.number);
-        return last_of(nth_page(pages, n, left as usize));
-    };
-    Slide::Is(key, val)
 }

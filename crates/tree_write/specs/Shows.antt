@@ -1,12 +1,14 @@
 -- The working areas show a run of updates: its pages, its log, and where it stands.
-use Rattle.std.specs.Prelude.{◌≡◌, refl, ℕ, suc, ◌+◌, ◌-◌, ◌*◌, ◌<◌, ◌≤◌, Bool, true, false, List, [], ◌∷◌, ◌++◌, length, ltb}
-use Rattle.std.proofs.Common.{ap, sym, ◌∙◌, subst₂, add-one, arith, append-nil, length-append}
+use Rattle.std.specs.Prelude.{◌≡◌, refl, ℕ, suc, ◌+◌, ◌-◌, ◌*◌, ◌<◌, ◌≤◌, ◌⊎◌, Bool, true, false, List, [], ◌∷◌, ◌++◌, length, ltb, Option, Some, None, IsSome}
+use Rattle.std.proofs.Common.{ap, sym, ◌∙◌, subst₂, add-one, arith, append-nil, length-append, inl, inr}
 use Rattle.std.proofs.Math.Path.{subst}
 use Rattle.def_base.specs.Tests.{eq_true, neq_false, lt_true, lt_false}
 use Rattle.def_layout.specs.Pages.{Page}
 use Rattle.def_layout.specs.Records.{Rec, Kind, batch_row}
 use Rattle.def_layout.specs.RecordBytes.{record_bytes, slot_bytes}
 use Rattle.def_layout.specs.Sizes.{slot_size}
+use Rattle.def_model.specs.declared.Refusal.{Refusal}
+use Rattle.def_model.specs.declared.Refusal.TheVariants.{SlotsShort, PagesShort}
 use Rattle.def_model.specs.Log.{slots_from}
 use Rattle.def_model.specs.Change.{changes, shape}
 use Rattle.def_model.specs.Redo.{when_named, places, redo_places, redo_record, redo_lefts}
@@ -21,6 +23,11 @@ use Rattle.record_pages.specs.Pages.{Pages}
 use Rattle.record_pages.specs.Records.{Keeps}
 use Rattle.tree_write.specs.declared.Run as program
 
+-- What a program's run says of why it stopped, and the number that the definition's run has for it.
+abbrev pub Stops : Option Refusal → ℕ → Type 0
+Stops None n = n ≡ 0
+Stops (Some why) n = ((why ≡ SlotsShort) × (n ≡ 17)) ⊎ ((why ≡ PagesShort) × (n ≡ 18))
+
 pub record Shows (n m : ℕ) (wp wl : List ℕ) (t : program.Run) (s : Run) : Type 0 where
   pub pages : Pages n wp s.pages s.lefts
   pub log : HoldsLog wl s.log
@@ -28,21 +35,29 @@ pub record Shows (n m : ℕ) (wp wl : List ℕ) (t : program.Run) (s : Run) : Ty
   pub logged : length s.log ≡ t.logged
   pub due : s.due ≡ suc t.logged
   pub room : s.room ≡ m - t.logged
-  pub stop : s.stop ≡ t.stop
+  pub stop : Stops t.stop s.stop
 
 -- What most contracts of code that changes the working areas say: from every run that they showed, it went on to what f makes of that run.
 abbrev pub Does : (n m : ℕ) (wp wl : Slice) (t u : program.Run) (f : Run → Run) → Type 0
 Does n m wp wl t u f = (s : Run) → Shows n m wp.entry.now wl.entry.now t s → Shows n m wp.exit.now wl.exit.now u (f s)
 
-abbrev pub at_stop : program.Run → ℕ → program.Run
-at_stop t n = record { logged = t.logged; stop = n }
+abbrev pub at_stop : program.Run → Refusal → program.Run
+at_stop t why = record { logged = t.logged; stop = Some why }
+
+-- A run that writes no further record: it had stopped, or it stops because there is no slot for one.
+abbrev pub Halted : ℕ → program.Run → program.Run → Type 0
+Halted m t u = (u ≡ t) ⊎ ((t.stop ≡ None) × (m ≤ t.logged) × (u ≡ at_stop t SlotsShort))
+
+pub stops_not_zero : (o : Option Refusal) (n : ℕ) → IsSome o → Stops o n → n ≡ 0 → ⊥
+stops_not_zero None n e h z = cc
+stops_not_zero (Some why) n e h z = elim h [ inl q ↦ omega (arith, q.1, z) | inr q ↦ omega (arith, q.1, z) ]
 
 module _ {n m : ℕ} {wp wl : List ℕ} {t : program.Run} {s : Run} (h : Shows n m wp wl t s) where
-  pub shows_going : t.stop ≡ 0 → going s ≡ true
-  shows_going e = eq_true s.stop 0 (h.stop ∙ e)
+  pub shows_going : t.stop ≡ None → going s ≡ true
+  shows_going e = eq_true s.stop 0 (subst (λ (o : Option Refusal). Stops o s.stop) e h.stop)
 
-  pub shows_stuck : (t.stop ≡ 0 → ⊥) → going s ≡ false
-  shows_stuck e = neq_false (λ z. e (sym h.stop ∙ z))
+  pub shows_stuck : IsSome t.stop → going s ≡ false
+  shows_stuck e = neq_false (stops_not_zero t.stop s.stop e h.stop)
 
   pub shows_slot : t.logged < m → ltb 0 s.room ≡ true
   shows_slot l = lt_true 0 s.room (omega (arith, h.room))
@@ -50,19 +65,24 @@ module _ {n m : ℕ} {wp wl : List ℕ} {t : program.Run} {s : Run} (h : Shows n
   pub shows_full : m ≤ t.logged → ltb 0 s.room ≡ false
   shows_full l = lt_false 0 s.room (omega (arith, h.room))
 
-  pub shows_stopped : (why : ℕ) → Shows n m wp wl (at_stop t why) (stopped why s)
-  shows_stopped why =
-      record { pages = h.pages; log = h.log; size = h.size; logged = h.logged; due = h.due; room = h.room; stop = refl }
+  pub shows_stopped : (why : Refusal) (number : ℕ) → Stops (Some why) number → Shows n m wp wl (at_stop t why) (stopped number s)
+  shows_stopped why number e =
+      record { pages = h.pages; log = h.log; size = h.size; logged = h.logged; due = h.due; room = h.room; stop = e }
 
   -- A run that has stopped writes nothing more.
-  pub emit_stuck : (r : Rec) → (t.stop ≡ 0 → ⊥) → Shows n m wp wl t (emit r s)
+  pub emit_stuck : (r : Rec) → IsSome t.stop → Shows n m wp wl t (emit r s)
   unfolding emit emit_by
   emit_stuck r e = subst (Shows n m wp wl t) (sym (rw (shows_stuck e))) h
 
   -- There is no slot for it.
-  pub emit_full : (r : Rec) → t.stop ≡ 0 → m ≤ t.logged → Shows n m wp wl (at_stop t 17) (emit r s)
+  pub emit_full : (r : Rec) → t.stop ≡ None → m ≤ t.logged → Shows n m wp wl (at_stop t SlotsShort) (emit r s)
   unfolding emit emit_by
-  emit_full r e l = subst (Shows n m wp wl (at_stop t 17)) (sym (rw (shows_going e, shows_full l))) (shows_stopped 17)
+  emit_full r e l = subst (Shows n m wp wl (at_stop t SlotsShort)) (sym (rw (shows_going e, shows_full l))) (shows_stopped SlotsShort 17 (inl (refl, refl)))
+
+  -- One or the other.
+  pub emit_halted : (u : program.Run) (r : Rec) → IsSome u.stop → Halted m t u → Shows n m wp wl u (emit r s)
+  emit_halted u r e (inl q) = subst (λ (v : program.Run). Shows n m wp wl v (emit r s)) (sym q) (emit_stuck r (subst (λ (v : program.Run). IsSome v.stop) q e))
+  emit_halted u r e (inr q) = subst (λ (v : program.Run). Shows n m wp wl v (emit r s)) (sym q.2) (emit_full r q.0 q.1)
 
 -- The record that a run would log next keeps pages within their widths, if there is a slot for it.
 abbrev pub Keeping : ℕ → program.Run → Rec → Type 0
@@ -89,13 +109,13 @@ pub slot_record : (i : ℕ) (b b' : List ℕ) (r : Rec) → b' ≡ patch b (slot
 slot_record i b b' r e = e ∙ ap (λ (k : ℕ). patch b (slot_size * i) (record_bytes k r)) (add-one i)
 
 -- It is logged and applied.
-pub emit_logs : {n m : ℕ} {wp wp' wl wl' : List ℕ} {t : program.Run} {s : Run} (h : Shows n m wp wl t s) (r : Rec) (k : ℕ) → t.stop ≡ 0 → t.logged < m → k ≡ suc t.logged
+pub emit_logs : {n m : ℕ} {wp wp' wl wl' : List ℕ} {t : program.Run} {s : Run} (h : Shows n m wp wl t s) (r : Rec) (k : ℕ) → t.stop ≡ None → t.logged < m → k ≡ suc t.logged
     → wl' ≡ patch wl (slot_size * t.logged) (record_bytes (suc t.logged) r) → length wl' ≡ length wl → Pages n wp' (redo_record k r s.pages) (redo_lefts k r (places r) s.pages s.lefts)
-    → Shows n m wp' wl' (record { logged = k; stop = 0 }) (emit r s)
+    → Shows n m wp' wl' (record { logged = k; stop = None }) (emit r s)
 unfolding emit emit_by logged
 emit_logs {n} {m} {wp} {wp'} {wl} {wl'} {t} {s} h r k e l d w z p =
     let q : emit r s ≡ logged r s = rw (shows_going h e, shows_slot h l) in
-    subst (Shows n m wp' wl' (record { logged = k; stop = 0 })) (sym q)
+    subst (Shows n m wp' wl' (record { logged = k; stop = None })) (sym q)
     (record {
       pages = subst (λ (i : ℕ). Pages n wp' (redo_record i r s.pages) (redo_lefts i r (places r) s.pages s.lefts)) (d ∙ sym h.due) p;
       log = log_written s.log r t.logged h.logged w h.log;
@@ -127,9 +147,9 @@ quiet_emit kind batch previous s e = go (going s) (ltb 0 s.room)
     go false y = (refl, refl)
 
 pub emit_notes : {n m : ℕ} {wp wl wl' : List ℕ} {t : program.Run} {s : Run} (h : Shows n m wp wl t s) (kind : Kind) (batch previous : ℕ) (r : Rec) (k : ℕ)
-    → shape kind ≡ changes false false false false → t.stop ≡ 0 → t.logged < m → k ≡ suc t.logged → r ≡ batch_row kind batch previous
+    → shape kind ≡ changes false false false false → t.stop ≡ None → t.logged < m → k ≡ suc t.logged → r ≡ batch_row kind batch previous
     → wl' ≡ patch wl (slot_size * t.logged) (record_bytes (suc t.logged) r) → length wl' ≡ length wl
-    → Shows n m wp wl' (record { logged = k; stop = 0 }) (emit (batch_row kind batch previous) s)
+    → Shows n m wp wl' (record { logged = k; stop = None }) (emit (batch_row kind batch previous) s)
 emit_notes {n} {m} {wp} {wl} {wl'} {t} {s} h kind batch previous r k q e l d i w z =
     emit_logs h (batch_row kind batch previous) k e l d (w ∙ ap (λ (x : Rec). patch wl (slot_size * t.logged) (record_bytes (suc t.logged) x)) i) z
     (subst₂ (Pages n wp) (sym (quiet_pages kind batch previous k s.pages q)) (sym (quiet_lefts kind batch previous k s.pages s.lefts q)) h.pages)

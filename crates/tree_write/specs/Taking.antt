@@ -1,20 +1,21 @@
 -- The page taken, and a record that takes one.
 use Rattle.std.proofs.Math.Path.{◌≡◌, refl, ap, sym, subst}
-use Rattle.std.proofs.Common.{◌∙◌, arith}
-use Rattle.std.specs.Prelude.{ℕ, zero, suc, ◌<◌, ◌≤◌, Bool, ◌&&◌, get_or, length}
+use Rattle.std.proofs.Common.{◌∙◌, arith, subst₂, inl, inr}
+use Rattle.std.specs.Prelude.{ℕ, zero, suc, ◌<◌, ◌≤◌, Bool, ◌&&◌, get_or, length, None, IsSome}
 use Rattle.std.proofs.Math.Bool.{true, false}
 use mathlib.Core.List.{List, []}
 use Rattle.std.proofs.Math.Dec.{ltb, eqb}
 use Rattle.def_base.specs.Tests.{Case, yes!, no!, case, eq_true, neq_false}
 use Rattle.def_layout.specs.Pages.{Page, at}
 use Rattle.def_layout.specs.Records.{Rec}
+use Rattle.def_model.specs.declared.Refusal.TheVariants.{PagesShort}
 use Rattle.def_model.specs.Update.{Run, going, emit, highest, fresh, taking_by, emit_taking}
 use Rattle.codec_page.specs.declared.Page as program
 use Rattle.codec_page.specs.Typed.{typed, used_marks_node, used_marks_map}
 use Rattle.codec_map.specs.Turns.{marks}
 use Rattle.record_pages.specs.Pages.{Pages, Reads}
 use Rattle.tree_write.specs.declared.Run as program_run
-use Rattle.tree_write.specs.Shows.{Shows, at_stop, shows_going, shows_stuck, shows_slot, shows_full, shows_stopped, emit_stuck, emit_full}
+use Rattle.tree_write.specs.Shows.{Shows, Halted, at_stop, shows_going, shows_stuck, shows_slot, shows_full, shows_stopped, emit_stuck, emit_full}
 
 -- ---- the highest free page
 
@@ -68,14 +69,16 @@ module _ (s : Run) (f : ℕ → Rec) (near b : ℕ) (r : Rec) (e : b ≡ fresh s
   by_tests none x y gx gy = taking_is ∙ rw (gx, gy, eq_true b 0 none)
 
   module _ {n m : ℕ} {wp wl : List ℕ} {t : program_run.Run} (none : b ≡ 0) (h : Shows n m wp wl t s) where
-    pub taking_stuck : (t.stop ≡ 0 → ⊥) → Shows n m wp wl t (emit_taking f near s)
+    pub taking_halted : (u : program_run.Run) → IsSome u.stop → Halted m t u → Shows n m wp wl u (emit_taking f near s)
     unfolding taking_by
-    taking_stuck st = subst (Shows n m wp wl t) (sym (by_tests none false _ (shows_stuck h st) refl)) (emit_stuck h r st)
+    taking_halted u e (inl q) =
+        let stuck : IsSome t.stop = subst (λ (v : program_run.Run). IsSome v.stop) q e in
+        subst₂ (Shows n m wp wl) (sym q) (sym (by_tests none false _ (shows_stuck h stuck) refl)) (emit_stuck h r stuck)
+    taking_halted u e (inr q) =
+        subst₂ (Shows n m wp wl) (sym q.2) (sym (by_tests none true false (shows_going h q.0) (shows_full h q.1))) (emit_full h r q.0 q.1)
 
-    pub taking_full : t.stop ≡ 0 → m ≤ t.logged → Shows n m wp wl (at_stop t 17) (emit_taking f near s)
+    pub taking_none : t.stop ≡ None → t.logged < m → Shows n m wp wl (at_stop t PagesShort) (emit_taking f near s)
     unfolding taking_by
-    taking_full st l = subst (Shows n m wp wl (at_stop t 17)) (sym (by_tests none true false (shows_going h st) (shows_full h l))) (emit_full h r st l)
-
-    pub taking_none : t.stop ≡ 0 → t.logged < m → Shows n m wp wl (at_stop t 18) (emit_taking f near s)
-    unfolding taking_by
-    taking_none st l = subst (Shows n m wp wl (at_stop t 18)) (sym (by_tests none true true (shows_going h st) (shows_slot h l))) (shows_stopped h 18)
+    taking_none st l =
+        subst (Shows n m wp wl (at_stop t PagesShort)) (sym (by_tests none true true (shows_going h st) (shows_slot h l)))
+        (shows_stopped h PagesShort 18 (inr (refl, refl)))

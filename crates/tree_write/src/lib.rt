@@ -1,7 +1,7 @@
 // A run of updates over the lent working areas: one record after another is logged and applied.
 #![tactic(auto)]
 
-ghost use Rattle.std.specs.Prelude.{◌≡◌, false, List, ℕ, suc, ◌*◌, ◌≤◌, ◌<◌, length};
+ghost use Rattle.std.specs.Prelude.{◌≡◌, false, List, ℕ, suc, ◌*◌, ◌≤◌, ◌<◌, length, IsSome, IsNone};
 ghost use Rattle.def_layout.specs.Sizes.{slot_size, most_slots, room};
 ghost use Rattle.def_layout.specs.Pages.{Page};
 ghost use Rattle.def_layout.specs.Records.{Rec, kind_of, batch_row};
@@ -12,21 +12,45 @@ ghost use Rattle.law_bytes.specs.AreaSizes.{HasPages, HasSlots, HasAreas};
 ghost use Rattle.law_bytes.specs.Patch.{patch};
 ghost use Rattle.record_apply.specs.Pages.{rec};
 ghost use Rattle.record_pages.specs.Pages.{Pages};
-ghost use Rattle.tree_write.specs.Shows.{Shows, Keeping};
+ghost use Rattle.tree_write.specs.Shows.{Shows, Keeping, Halted};
 
 use codec_map::highest_free;
 use codec_slot::{Header, Slot, write_at};
 use def_layout::SLOT_SIZE;
+use def_model::Refusal;
 use record_apply::Record;
 use record_make::batch_row;
 use record_pages::{page_at, redo_record};
 
-// Where a run stands: the last record's number, and why it stopped (0: it goes on; else 17 or 18). A number and no `ok`: it is the field of the
-// definition's own run, `def_model/Update: Run.stop`, which a stopped run carries on.
+// Where a run stands: the last record's number, and why it stopped, if it did: for want of slots or of pages.
 #[derive(Clone, Copy)]
 pub struct Run {
     pub logged: u32,
-    pub stop: u32,
+    pub stop: Option<Refusal>,
+}
+
+impl Run {
+    // A run that goes on, after so many records.
+    pub fn at(logged: u32) -> Self
+        ensures { result ≡ record { logged = logged; stop = None } }
+    {
+        Run { logged, stop: None }
+    }
+
+    // The run before its next record: it stops if there is no slot for one.
+    fn before_record(self, m: usize) -> Self
+        ensures same { result.logged ≡ self.logged }
+        ensures goes { IsNone result.stop → (result ≡ self) × (result.stop ≡ None) × (result.logged < m) }
+        ensures halts { IsSome result.stop → Halted m self result }
+    {
+        if self.stop.is_none() && self.logged as usize >= m {
+            return Run {
+                stop: Some(Refusal::SlotsShort),
+                ..self
+            };
+        }
+        self
+    }
 }
 
 // The record after the first i goes into its slot.
@@ -57,19 +81,14 @@ pub fn emit(wp: &mut [u8], wl: &mut [u8], n: usize, m: usize, t: Run, r: Record)
     requires { HasAreas n m wp.old wl.old × (r.count ≤ room) }
     ensures { (s : model.Run) → Shows n m wp.old wl.old t s → Keeping m t (rec r) → Shows n m wp.new wl.new result (model.emit (rec r) s) }
 {
-    if t.stop != 0 {
+    let t = t.before_record(m);
+    if t.stop.is_some() {
         return t;
-    }
-    if t.logged as usize >= m {
-        return Run {
-            logged: t.logged,
-            stop: 17,
-        };
     }
     let k = t.logged + 1;
     write_record(wl, t.logged, r);
     redo_record(wp, n, r, k);
-    Run { logged: k, stop: 0 }
+    Run::at(k)
 }
 
 // A record that changes no page (a begin, a commit, an abort mark, an end) is logged, if there is a slot for it.
@@ -78,21 +97,13 @@ pub fn note(wl: &mut [u8], m: usize, t: Run, kind: u32, batch: u32, previous: u3
     ensures { (t.logged ≤ result.logged) × (t.logged ≤ m → result.logged ≤ m)
         × ((n : ℕ) (wp : List ℕ) (s : model.Run) → Shows n m wp wl.old t s → Shows n m wp wl.new result (model.emit (batch_row (kind_of kind) batch previous) s)) }
 {
-    if t.stop != 0 {
+    let t = t.before_record(m);
+    if t.stop.is_some() {
         return t;
-    }
-    if t.logged as usize >= m {
-        return Run {
-            logged: t.logged,
-            stop: 17,
-        };
     }
     let r = batch_row(kind, batch, previous);
     write_record(wl, t.logged, r);
-    Run {
-        logged: t.logged + 1,
-        stop: 0,
-    }
+    Run::at(t.logged + 1)
 }
 
 // The page taken, of n: the free one with the highest number, or 0 if there is none.
@@ -125,17 +136,12 @@ pub fn emit_taking(
     if b != 0 {
         return emit(wp, wl, n, m, t, r);
     }
-    if t.stop != 0 {
+    let t = t.before_record(m);
+    if t.stop.is_some() {
         return t;
     }
-    if t.logged as usize >= m {
-        return Run {
-            logged: t.logged,
-            stop: 17,
-        };
-    }
     Run {
-        logged: t.logged,
-        stop: 18,
+        stop: Some(Refusal::PagesShort),
+        ..t
     }
 }

@@ -1,24 +1,24 @@
 -- `next_above`: no key is above the last one; else the leaf has it, or the leaf after it.
-use mathlib.Core.Path.{sym, ◌∙◌, ap}
+use mathlib.Core.Path.{◌∙◌}
 use native.Mathlib.Numerals.{add-one}
+use native.Mathlib.Omega.{arith}
 use Rattle.law_bytes.specs.PageAreas.{pages_of}
-use Rattle.tree_lookup.specs.Answers.{slide_of}
 use Rattle.tree_lookup.specs.Descent.{next_top, next_here, next_after}
 use Rattle.tree_lookup.proofs.next_above.Goals as goal
 
-pub returns-then-k-ge4294967295 : goal.returns-then-k-ge4294967295
-returns-then-k-ge4294967295 c =
+pub returns-in_err-above : goal.returns-in_err-above
+returns-in_err-above c =
     let a = c.args in
-    next_top a.k (pages_of a.n a.pages.now) c.if-k-ge4294967295.true
+    rw c.from_residual.ensures (next_top a.k (pages_of a.n a.pages.now) (omega (arith, c.in_err-above.ensures)))
 
-pub returns-in_default : goal.returns-in_default
-returns-in_default c =
+pub returns-in-Some : goal.returns-in-Some
+returns-in-Some c =
     let a = c.args in
-    let none_there = sym c.seek_in.ensures ∙ ap slide_of c.in_default.is in
-    next_after a.k (pages_of a.n a.pages.now) _ _ c.if-k-ge4294967295.false (add-one a.k) c.leaf_of.ensures.1 _ _ none_there c.nth_page.ensures c.first_of.ensures
+    let ok = c.in_ok-above.ensures in
+    next_here a.k (pages_of a.n a.pages.now) _ _ (omega (arith, ok.0)) (ok.1 ∙ add-one a.k) c.leaf_of.ensures.1 _ c.in-Some.ensures
 
-pub returns : goal.returns
-returns c =
+pub returns-in-None : goal.returns-in-None
+returns-in-None c =
     let a = c.args in
-    let there = sym c.seek_in.ensures ∙ ap slide_of c.in-Is.is in
-    next_here a.k (pages_of a.n a.pages.now) _ _ c.if-k-ge4294967295.false (add-one a.k) c.leaf_of.ensures.1 _ there
+    let ok = c.in_ok-above.ensures in
+    next_after a.k (pages_of a.n a.pages.now) _ _ (omega (arith, ok.0)) (ok.1 ∙ add-one a.k) c.leaf_of.ensures.1 _ _ c.in-None.ensures c.nth_page.ensures c.first_of.ensures

@@ -1,25 +1,31 @@
 -- `previous_below`: none is below 0; else the leaf has it, or the leaf to its left.
-use mathlib.Core.Path.{sym, ◌∙◌, ap}
+use mathlib.Core.Path.{◌∙◌, ap}
+use native.Mathlib.Omega.{arith}
+use Rattle.def_layout.specs.Pages.{at}
+use Rattle.def_model.specs.Lookup.{leaf_of}
 use Rattle.law_bytes.specs.PageAreas.{pages_of, lefts_of}
-use Rattle.tree_lookup.specs.Answers.{slide_of}
 use Rattle.tree_lookup.specs.Backwards.{page_short, previous_zero, previous_here, previous_left}
 use Rattle.tree_lookup.proofs.previous_below.Goals as goal
 
-pub returns-then-k-eq0 : goal.returns-then-k-eq0
-returns-then-k-eq0 c = let a = c.args in λ fits. previous_zero a.k (pages_of a.n a.pages.now) (lefts_of a.n a.pages.now) c.if-k-eq0.true
+pub returns-in_err-below : goal.returns-in_err-below
+returns-in_err-below c fits =
+    let a = c.args in
+    rw c.from_residual.ensures (previous_zero a.k (pages_of a.n a.pages.now) (lefts_of a.n a.pages.now) (omega (arith, c.in_err-below.ensures)))
 
-pub returns-in_default : goal.returns-in_default
-returns-in_default c =
+pub returns-in-Some : goal.returns-in-Some
+returns-in-Some c fits =
     let a = c.args in
     let xs = pages_of a.n a.pages.now in
-    λ fits.
-    let none_there = sym (c.last_below.ensures (page_short xs fits _ _ c.leaf_of-x.ensures.1)) ∙ ap slide_of c.in_default.is in
-    previous_left a.k xs (lefts_of a.n a.pages.now) c.if-k-eq0.false _ _ c.leaf_of-x.ensures.0 c.leaf_of-x.ensures.1 _ _ _ none_there c.left_of-left.ensures c.nth_page.ensures (c.last_of.ensures (page_short xs fits _ _ c.nth_page.ensures))
+    let ok = c.in_ok-below.ensures in
+    let leaf = c.leaf_of-leaf.ensures in
+    previous_here a.k xs (lefts_of a.n a.pages.now) (omega (arith, ok.0)) _ _ (leaf.0 ∙ ap (λ i. leaf_of i xs) ok.1) (leaf.1 ∙ ap (λ i. at xs (leaf_of i xs)) ok.1) _
+    (c.in-Some.ensures (page_short xs fits _ _ leaf.1))
 
-pub returns : goal.returns
-returns c =
+pub returns-in-None : goal.returns-in-None
+returns-in-None c fits =
     let a = c.args in
     let xs = pages_of a.n a.pages.now in
-    λ fits.
-    let there = sym (c.last_below.ensures (page_short xs fits _ _ c.leaf_of-x.ensures.1)) ∙ ap slide_of c.in-Is.is in
-    previous_here a.k xs (lefts_of a.n a.pages.now) c.if-k-eq0.false _ _ c.leaf_of-x.ensures.0 c.leaf_of-x.ensures.1 _ there
+    let ok = c.in_ok-below.ensures in
+    let leaf = c.leaf_of-leaf.ensures in
+    previous_left a.k xs (lefts_of a.n a.pages.now) (omega (arith, ok.0)) _ _ (leaf.0 ∙ ap (λ i. leaf_of i xs) ok.1) (leaf.1 ∙ ap (λ i. at xs (leaf_of i xs)) ok.1) _ _ _
+    (c.in-None.ensures (page_short xs fits _ _ leaf.1)) c.left_of-left.ensures c.nth_page.ensures (c.last_of.ensures (page_short xs fits _ _ c.nth_page.ensures))
