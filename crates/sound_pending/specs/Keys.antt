@@ -5,12 +5,13 @@ use Rattle.std.proofs.Common.{◌∙◌, subst, arith, ne_eqb}
 use Rattle.std.proofs.Math.Option.{Option, none, some}
 use Rattle.std.proofs.Math.Bool.{true, false}
 use Rattle.std.proofs.Math.Decide.{dec_lt}
+use Rattle.std.specs.Prelude as code
 use Rattle.def_base.specs.Tests.{any, eq_true, neq_false, le_true, le_false, lt_true, lt_false}
 use Rattle.def_layout.specs.Records.{Rec}
 use Rattle.def_model.specs.Batches.{Line}
 use Rattle.def_model.specs.Pending.{newest_on}
 use Rattle.log_pending.specs.declared.Line as program
-use Rattle.log_pending.specs.Lines.{shown_line, stands, TellsLine}
+use Rattle.log_pending.specs.Lines.{shown_line, TellsLine}
 use Rattle.sound_pending.specs.Walks.{Question, Asked, Walking, walk_start, walk_end, walk_on, walk_out}
 
 -- Nothing more is known.
@@ -85,15 +86,17 @@ key_says k m b from count r = subst (λ (g : ℕ → Bool). KeysSay g m b from c
 
 -- ---- the newest line on a key
 
--- Number 0 stands for none.
-unfoldable pub NewestIs : program.Line → Option Line → Type 0
-NewestIs r none = r.number ≡ 0
-NewestIs r (some y) = (0 < r.number) × (r.adds ≡ y.adds) × (r.value ≡ y.value)
+-- None just where there is none; else what the line adds or takes away, and its value.
+unfoldable pub NewestIs : code.Option program.Line → Option Line → Type 0
+NewestIs code.None none = Unit {0}
+NewestIs code.None (some y) = ⊥
+NewestIs (code.Some r) none = ⊥
+NewestIs (code.Some r) (some y) = (r.adds ≡ y.adds) × (r.value ≡ y.value)
 
 abbrev pub newest : ℕ → Unit {0} → Question (Option Line)
 newest k i all left ls = newest_on k ls
 
-abbrev pub NewestSays : ℕ → ℕ → List ℕ → ℕ → ℕ → program.Line → Type 0
+abbrev pub NewestSays : ℕ → ℕ → List ℕ → ℕ → ℕ → code.Option program.Line → Type 0
 NewestSays k m b from count r = Asked Plain (newest k) m b from count (λ i v. NewestIs r v)
 
 abbrev pub NewestLeft : ℕ → ℕ → List ℕ → ℕ → ℕ → ℕ → ℕ → Type 0
@@ -104,21 +107,21 @@ module _ (k m : ℕ) (b : List ℕ) (from count : ℕ) where
   newest_start = walk_start Plain (newest k) m b from count
 
   module _ (at left : ℕ) (w : NewestLeft k m b from count at left) where
-    pub newest_none : (r : program.Line) → r.number ≡ 0 → left ≡ 0 → NewestSays k m b from count r
+    pub newest_none : left ≡ 0 → NewestSays k m b from count code.None
     unfolding newest_on NewestIs
-    newest_none r n z = walk_end Plain (newest k) m b from count (λ i v. NewestIs r v) at left w z (λ i ls. n)
+    newest_none z = walk_end Plain (newest k) m b from count (λ i v. NewestIs code.None v) at left w z (λ i ls. tt)
 
     module _ (z : left ≡ 0 → ⊥) (x : program.Line) (t : TellsLine m b at x) where
       -- The key of the line that was read.
       same_key : (y : Line) (ys : List Line) → x ≡ shown_line y ys → x.key ≡ y.key
       same_key y ys s = ap (λ (p : program.Line). p.key) s
 
-      pub newest_hit : x.key ≡ k → NewestSays k m b from count x
+      pub newest_hit : x.key ≡ k → NewestSays k m b from count (code.Some x)
       unfolding newest_on NewestIs
       newest_hit e =
-          walk_out Plain (newest k) m b from count at left w z x t (λ i v. NewestIs x v)
+          walk_out Plain (newest k) m b from count at left w z x t (λ i v. NewestIs (code.Some x) v)
           (λ i l ls y ys q rd n h o.
-          rw (eq_true k y.key (sym e ∙ same_key y ys o.shown)) (omega (arith, ap (λ (a : program.Line). a.number) o.shown, (stands l y ys o.linked).from_one), ap (λ (a : program.Line). a.adds) o.shown, ap (λ (a : program.Line). a.value) o.shown))
+          rw (eq_true k y.key (sym e ∙ same_key y ys o.shown)) (ap (λ (a : program.Line). a.adds) o.shown, ap (λ (a : program.Line). a.value) o.shown))
 
       pub newest_further : (x.key ≡ k → ⊥) → NewestLeft k m b from count x.below (left - 1)
       unfolding newest_on

@@ -12,7 +12,7 @@ ghost use Rattle.law_bytes.specs.PageAreas.{pages_of, lefts_of};
 ghost use Rattle.law_areas.specs.Pages.{AllPagesFit};
 ghost use Rattle.tree_lookup.specs.Answers.{option_of, shows};
 ghost use Rattle.tree_lookup.specs.Searched.{searched};
-ghost use Rattle.tree_lookup.specs.Backwards.{Short, before_place};
+ghost use Rattle.tree_lookup.specs.Backwards.{Short, preceding};
 
 use codec_entries::find;
 use codec_page::{Page, left_of, nth_page};
@@ -73,9 +73,9 @@ fn first_of(x: Page) -> Option<Entry>
 }
 
 // The entry before place i.
-fn before(es: [Entry; ROOM], i: u8) -> Option<Entry>
+pub fn before(es: [Entry; ROOM], i: u8) -> Option<Entry>
     requires { i ≤ room }
-    ensures { option_of result ≡ before_place i es }
+    ensures { option_of result ≡ preceding i es }
 {
     if i == 0 {
         return None;
