@@ -19,43 +19,15 @@ ghost use Rattle.record_redo.specs.Outcomes.{Answers, pair, part, one_record, wh
 
 use codec_bytes::{copy_part, get32};
 use codec_entries::read_entries;
-use def_layout::{Entry, MOST_ENTRIES, PAGE_SIZE, ROOM, SLOT_SIZE, page, slot};
-use record_apply::roles::parts;
+use def_layout::{MOST_ENTRIES, PAGE_SIZE, SLOT_SIZE, page, slot};
+use record_apply::roles::parts_of;
 use record_apply::{Record, apply};
 use record_fit::fits;
 use record_leaf::slide_made;
 use record_pages::{page_at, put_page};
 
-fn no_record() -> Record
-    ensures { result.count ≤ room }
-{
-    Record {
-        kind: 0,
-        count: 0,
-        level: 0,
-        batch: 0,
-        previous: 0,
-        a: 0,
-        b: 0,
-        c: 0,
-        key: 0,
-        second: 0,
-        right: 0,
-        entries: [Entry { key: 0, val: 0 }; ROOM],
-    }
-}
-
-// A slot's count has four bits.
-fn at_most_room(count: u32) -> u32
-    ensures { (result ≤ room) × (count ≤ room → result ≡ count) }
-{
-    if count > MOST_ENTRIES {
-        return MOST_ENTRIES;
-    }
-    count
-}
-
-// The record that 144 bytes show. Whether they are a record's was judged before: of others nothing is said.
+// The record that 144 bytes show, its count, which has four bits, cut to fourteen. Whether they are a record's was judged before: of others nothing is
+// said.
 fn record_in(s: &[u8]) -> Record
     requires { length s.now ≡ slot_size }
     ensures { (result.count ≤ room) × (be32 s.now 0 / 16777216 % 16 ≤ room → rec result ≡ record_fields s.now) }
@@ -65,7 +37,7 @@ fn record_in(s: &[u8]) -> Record
     let entries = read_entries(s, slot::ENTRIES_AT);
     Record {
         kind: w / slot::KIND_UNIT,
-        count: at_most_room(w / slot::COUNT_UNIT % 16),
+        count: MOST_ENTRIES.min(w / slot::COUNT_UNIT % 16),
         level: w / slot::LEVEL_UNIT % 16,
         batch: get32(s, slot::BATCH_AT),
         previous: get32(s, slot::PREVIOUS_AT),
@@ -85,7 +57,7 @@ pub fn record_at(log: &[u8], m: usize, i: usize) -> Record
     ensures { (result.count ≤ room) × Tells m log.now i result }
 {
     if i >= m {
-        return no_record();
+        return Record::default();
     }
     record_in(&log[SLOT_SIZE * i..SLOT_SIZE * i + SLOT_SIZE])
 }
@@ -127,11 +99,11 @@ pub fn redo_places(pages: &mut [u8], n: usize, r: Record, k: u32) -> Option<u32>
     ensures most { IfSome result (λ count. count ≤ 4) }
     ensures answer { (xs : List layout.Page) → Pages n pages.old xs [] → Keeps k (rec r) → Answers n pages.new result (one_record k (rec r) xs) }
 {
-    let bits = parts(r.kind);
-    let a = redo_part(pages, n, r, k, bits / 8 % 2 == 1, r.a)?;
-    let b = redo_part(pages, n, r, k, bits / 4 % 2 == 1, r.b)?;
-    let c = redo_part(pages, n, r, k, bits / 2 % 2 == 1, r.c)?;
-    let map = redo_part(pages, n, r, k, bits % 2 == 1, 0)?;
+    let parts = parts_of(r.kind);
+    let a = redo_part(pages, n, r, k, parts.a, r.a)?;
+    let b = redo_part(pages, n, r, k, parts.b, r.b)?;
+    let c = redo_part(pages, n, r, k, parts.c, r.c)?;
+    let map = redo_part(pages, n, r, k, parts.map, 0)?;
     Some(a + b + c + map)
 }
 
