@@ -61,7 +61,7 @@ pub fn same_part(s: &[u8], a: usize, t: &[u8], b: usize, n: usize) -> bool
     same(&s[a..a + n], &t[b..b + n])
 }
 
-// Whether all bytes are zero. No byte ends it early, so that many are tested at a time: a loop that ends early takes ten times the instructions.
+// Whether all bytes are zero. No byte ends it early, so that many are tested at a time: one that ends early takes six times the instructions at 128 bytes, ten at an area.
 pub fn is_zero(s: &[u8]) -> bool
     ensures { result ≡ same_bytes (zeros (length s.now)) s.now }
 {

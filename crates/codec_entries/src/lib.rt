@@ -76,8 +76,9 @@ pub fn blank_from(es: [Entry; ROOM], n: usize) -> bool
     true
 }
 
-// SEARCH IN A PAGE, in 8 bits, as its callers count entries (`position` gives a usize, and takes no fewer instructions): the place of the first of n entries whose key is not below k, or n. Where an insert or delete is redone at a page's
-// own bytes, `record_leaf` has the same search of those.
+// SEARCH IN A PAGE, in 8 bits, as its callers count entries (`position` gives a usize, to be brought back to 8 bits: no plainer): the place
+// of the first of n entries whose key is not below k, or n. Where an insert or delete is redone at a page's own bytes, `record_leaf` has
+// the same search of those.
 pub fn find(es: [Entry; ROOM], n: u8, k: u32) -> u8
     requires { n ≤ room }
     ensures { (result ≡ place k (used n es)) × (result ≤ n) }
