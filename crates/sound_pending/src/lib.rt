@@ -1,9 +1,9 @@
 // Held keys and the pending rule, over the pending lines that the log leads to.
 #![tactic(auto)]
 
-ghost use Rattle.std.specs.Prelude.{◌≡◌, ◌<◌, eqb};
+ghost use Rattle.std.specs.Prelude.{◌≡◌, ◌<◌, ℕ, Bool, eqb};
 ghost use Rattle.law_bytes.specs.AreaSizes.{HasPages, HasSlots, HasAreas};
-ghost use Rattle.sound_pending.specs.Keys.{from_to, KeysSay, NewestSays};
+ghost use Rattle.sound_pending.specs.Keys.{from_to, TestsBy, FirstSays, KeysSay, NewestSays};
 ghost use Rattle.sound_pending.specs.Rows.{RowKeys, DeskKeys, HeldIs, HeldBetweenIs, HeldFromIs};
 ghost use Rattle.sound_pending.specs.Alternating.{Alternates, AlternateSays};
 ghost use Rattle.sound_pending.specs.Apart.{FreeSays, ApartIs};
@@ -25,20 +25,35 @@ fn within(first: u64, key: u32, last: u32) -> bool
     key <= last
 }
 
-// Whether one of `count` lines, down from number `from`, has such a key.
-fn has_within(log: &[u8], m: usize, from: u32, count: u32, first: u64, last: u32) -> bool
-    requires { HasSlots m log.now }
-    ensures { KeysSay (from_to first last) m log.now from count result }
+// The newest of `count` lines, down from number `from`, whose key passes the test.
+fn newest_with<F: Fn(u32) -> bool>(
+    log: &[u8],
+    m: usize,
+    from: u32,
+    count: u32,
+    test: F,
+) -> Option<Line>
+    requires slots { HasSlots m log.now }
+    requires callable { F.IsAlwaysCallable test }
+    ensures { (g : ℕ → Bool) → TestsBy (F.post test) g → FirstSays g m log.now from count result }
 {
     let mut at = from;
     for passed in 0..count {
         let x = line_at(log, m, at);
-        if within(first, x.key, last) {
-            return true;
+        if test(x.key) {
+            return Some(x);
         }
         at = x.below;
     }
-    false
+    None
+}
+
+// Whether one of them has a key of the range.
+fn has_within(log: &[u8], m: usize, from: u32, count: u32, first: u64, last: u32) -> bool
+    requires { HasSlots m log.now }
+    ensures { KeysSay (from_to first last) m log.now from count result }
+{
+    newest_with(log, m, from, count, |key| within(first, key, last)).is_some()
 }
 
 // Whether one of them has key k.
@@ -54,15 +69,7 @@ fn newest_on(log: &[u8], m: usize, from: u32, count: u32, k: u32) -> Option<Line
     requires { HasSlots m log.now }
     ensures { NewestSays k m log.now from count result }
 {
-    let mut at = from;
-    for passed in 0..count {
-        let x = line_at(log, m, at);
-        if x.key == k {
-            return Some(x);
-        }
-        at = x.below;
-    }
-    None
+    newest_with(log, m, from, count, |key| k == key)
 }
 
 // The row's batch is another than n, and has a key from `first` up to `last` pending.
