@@ -4,4 +4,4 @@ use Rattle.record_make.proofs.raise_row.Goals as goal
 
 pub returns : goal.returns
 unfolding kind_of
-returns c = c.row.ensures
+returns c = (rw c.of_kind-r.ensures.fields, c.of_kind-r.ensures.few)
