@@ -1,12 +1,11 @@
 -- The program's page of a height.
-use Rattle.std.specs.Prelude.{ℕ, zero, suc, ◌≤◌, ◌<◌, ◌≡◌, refl, List, [], eqb}
-use Rattle.std.proofs.Common.{sym, ap, ap₂, ◌∙◌, arith}
+use Rattle.std.specs.Prelude.{ℕ, zero, suc, ◌<◌, ◌≡◌, refl, List, []}
+use Rattle.std.proofs.Common.{ap, ap₂, ◌∙◌, arith}
 use Rattle.std.proofs.Math.Dec.{eqb-suc-zero}
-use Rattle.def_base.specs.Tests.{pick, eq_true}
 use Rattle.def_layout.specs.declared.Entry.{Entry}
 use Rattle.def_layout.specs.Entries.{entry_at}
 use Rattle.def_layout.specs.Numbers.{tab}
-use Rattle.def_layout.specs.Pages.{Page, PageKind, page_kind, kind_at, node_at}
+use Rattle.def_layout.specs.Pages.{page_kind, kind_at, node_at}
 use Rattle.codec_page.specs.Shown.{program_page}
 use Rattle.codec_page.specs.Typed.{typed, used_entries_node, used_marks_node}
 

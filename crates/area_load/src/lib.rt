@@ -22,7 +22,7 @@ use def_layout::{Entry, PAGE_SIZE, ROOM};
 // 02: "leaves take 10 each".
 const SHARE: usize = 10;
 
-const TOP: u32 = 4294967295;
+const TOP: u32 = u32::MAX;
 
 // How many of the entries left the next page takes: where the last would be left fewer than 4, the larger half.
 fn share(left: usize) -> usize
@@ -90,10 +90,8 @@ fn level_count(n: usize, height: usize) -> usize
     ensures { result ≡ count_up height n }
 {
     let mut count = n;
-    let mut h = 0;
-    while h < height {
+    for _ in 0..height {
         count = (count + 9) / SHARE;
-        h += 1;
     }
     count
 }
@@ -103,15 +101,13 @@ pub fn last_under(n: usize, height: usize, i: usize) -> usize
     requires { (n ≤ 65536) × (i < count_up height n) }
     ensures { result ≡ under n height i }
 {
-    let mut h = height;
     let mut j = i;
-    while h > 0 {
-        let count = level_count(n, h - 1);
+    for h in (0..height).rev() {
+        let count = level_count(n, h);
         if j + 1 == (count + 9) / SHARE {
             return n;
         }
         j = group_end(count, j) - 1;
-        h -= 1;
     }
     j
 }
@@ -251,9 +247,9 @@ fn map_word(used: usize, j: usize) -> u32
     }
     let k = used - 32 * j;
     if k >= 32 {
-        return 4294967295;
+        return u32::MAX;
     }
-    4294967295 - (4294967295 >> k)
+    u32::MAX - (u32::MAX >> k)
 }
 
 // The map of so many used pages.
@@ -302,9 +298,7 @@ pub fn load_pages(wp: &mut [u8], keys: &[u32], values: &[u32])
     ensures { wp.new ≡ pages_bytes (map page (loaded_pages (length wp.old / page_size) (columns keys.now values.now))) }
 {
     let n = wp.len() / PAGE_SIZE;
-    let mut p = 0;
-    while p < n {
+    for p in 0..n {
         write_at(wp, PAGE_SIZE * p, load_page(keys, values, p));
-        p += 1;
     }
 }

@@ -1,7 +1,6 @@
 -- `load_map`: after i turns the first i entries have their words.
 use borrow.Author.Rules.{rules}
 use native.Mathlib.Omega.{arith}
-use Prim.Native.Nat.{◌-◌}
 use mathlib.Core.Path.{refl, ap, ap₂, ◌∙◌}
 use Rattle.def_layout.specs.Entries.{entry}
 use Rattle.law_bytes.specs.Tables.{tab_none, tab_step, tab_end}
