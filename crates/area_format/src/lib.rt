@@ -21,7 +21,7 @@ use codec_bytes::zero;
 use codec_page::{Page, write_at};
 use def_layout::{Entry, PAGE_SIZE, ROOM, SLOT_SIZE};
 
-// The root of a register without slides: a leaf of all keys, with no entry.
+// The root of a register without slides: a leaf of all keys, with no entry. (The literal stays: the proof computes what the page stands for.)
 fn first_root() -> Page
     ensures { typed result ≡ node_at 1 0 0 top [] }
 {

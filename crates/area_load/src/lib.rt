@@ -185,7 +185,7 @@ fn entry_of(keys: &[u32], values: &[u32], height: usize, below: usize, i: usize)
     }
 }
 
-// The entries of a page.
+// The entries of a page. (The literal stays where they begin: what `Entry::default()` makes is known by its contract alone, and the proof of all 14 computes.)
 fn entries_of(keys: &[u32], values: &[u32], x: Place) -> [Entry; ROOM]
     requires { Columns keys.now values.now × Within (length keys.now) x }
     ensures { tab x.size (entry_at result) ≡ tab x.size (λ i. level_entry (columns keys.now values.now) x.height x.below (x.from + i)) }
@@ -252,7 +252,7 @@ fn map_word(used: usize, j: usize) -> u32
     u32::MAX - (u32::MAX >> k)
 }
 
-// The map of so many used pages.
+// The map of so many used pages. (The literal stays, as in `entries_of`.)
 pub fn load_map(used: usize) -> Page
     requires { used ≤ map_bits }
     ensures { typed result ≡ used_map used }
