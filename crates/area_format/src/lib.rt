@@ -19,6 +19,7 @@ use area_load::{load_map, load_pages};
 use area_store::{Area, Span, Stores, store_first};
 use codec_bytes::zero;
 use codec_page::{Page, write_at};
+use def_layout::page::PageKind;
 use def_layout::{Entry, PAGE_SIZE, ROOM, SLOT_SIZE};
 
 // The root of a register without slides: a leaf of all keys, with no entry. (The literal stays: the proof computes what the page stands for.)
@@ -26,7 +27,7 @@ fn first_root() -> Page
     ensures { typed result ≡ node_at 1 0 0 top [] }
 {
     Page {
-        kind: 1,
+        kind: PageKind::Leaf,
         level: 0,
         count: 0,
         right: 0,

@@ -5,7 +5,7 @@ ghost use Rattle.std.specs.Prelude.{◌≡◌, false, map, suc, ◌+◌, ◌*◌
 ghost use Rattle.def_layout.specs.Entries.{entry_at};
 ghost use Rattle.def_layout.specs.Numbers.{tab};
 ghost use Rattle.def_layout.specs.Sizes.{room, page_size};
-ghost use Rattle.def_layout.specs.Pages.{page_kind, kind_at, node_at, map_bits};
+ghost use Rattle.def_layout.specs.Pages.{node_at, map_bits};
 ghost use Rattle.def_layout.specs.PageBytes.{page};
 ghost use Rattle.def_model.specs.Loading.{columns, group_count, loaded_count, loaded_pages};
 ghost use Rattle.def_model.specs.OnBytes.{pages_bytes};
@@ -17,6 +17,7 @@ ghost use Rattle.area_load.specs.Columns.{Columns, loaded_page};
 ghost use Rattle.area_load.specs.Maps.{used_word, used_map};
 
 use codec_page::{Page, write_at, zero_page};
+use def_layout::page::PageKind;
 use def_layout::{Entry, PAGE_SIZE, ROOM};
 
 // 02: "leaves take 10 each".
@@ -197,23 +198,15 @@ fn entries_of(keys: &[u32], values: &[u32], x: Place) -> [Entry; ROOM]
     es
 }
 
-fn kind_of(height: usize) -> u32
-    ensures { (page_kind result ≡ kind_at height) × (result < 3) }
-{
-    if height == 0 {
-        return 1;
-    }
-    2
-}
-
 // Page p, with these entries.
 fn node(x: Place, es: [Entry; ROOM], p: usize, right: u32, high: u32) -> Page
     requires { (x.height ≤ 65536) × (x.size ≤ room) × (p ≤ 65536) }
     ensures { typed result ≡ node_at p x.height right high (tab x.size (entry_at es)) }
 {
+    let level = x.height as u32;
     Page {
-        kind: kind_of(x.height),
-        level: x.height as u32,
+        kind: PageKind::at_level(level),
+        level,
         count: x.size as u32,
         right,
         high,
@@ -266,7 +259,7 @@ pub fn load_map(used: usize) -> Page
         };
     }
     Page {
-        kind: 3,
+        kind: PageKind::Map,
         level: 0,
         count: 0,
         right: 0,

@@ -1,10 +1,11 @@
 -- Rows that lead to what batches have to undo: the row with the largest number due is that of the batch that is undone next.
-use Rattle.std.specs.Prelude.{ℕ, zero, suc, ◌+◌, ◌-◌, ◌<◌, ◌≤◌, ◌≡◌, refl, List, [], ◌∷◌, ◌++◌, map, length, set, replicate, ltb}
-use Rattle.std.proofs.Common.{sym, ap, ◌∙◌, subst, arith, le_refl}
+use Rattle.std.specs.Prelude.{ℕ, zero, suc, ◌<◌, ◌≤◌, ◌≡◌, refl, List, [], ◌∷◌, ◌++◌, map, length, set, replicate, ltb}
+use Rattle.std.proofs.Common.{sym, ap, ◌∙◌, subst, arith}
+use Rattle.std.specs.List.{IsFirstMaxByKey}
 use Rattle.std.proofs.Math.Option.{Option, none, some}
 use Rattle.std.proofs.Math.Decide.{dec_lt}
 use Rattle.std.proofs.Math.ListN.{get_or-eq_default}
-use Rattle.def_base.specs.Tests.{pick, Case, yes!, no!, case, none_some, some_inj, lt_true, lt_false, true_lt, false_lt}
+use Rattle.def_base.specs.Tests.{Case, yes!, no!, case, none_some, some_inj, lt_true, lt_false}
 use Rattle.def_layout.specs.declared.Row.{Row}
 use Rattle.def_layout.specs.Desks.{no_row, row_at}
 use Rattle.def_layout.specs.Records.{Rec}
@@ -40,56 +41,12 @@ pub record Top (rs : List Row) (p : ℕ) : Type 0 where
   pub most : (j : ℕ) → (row_at rs j).undo ≤ (row_at rs p).undo
   pub first : (j : ℕ) → j < p → (row_at rs j).undo < (row_at rs p).undo
 
--- Row by row: of p, the top of the first i, and i, the larger.
-abbrev pub newer_of : List Row → ℕ → ℕ → ℕ
-newer_of rs p i = pick (ltb (row_at rs p).undo (row_at rs i).undo) i p
-
-pub newer_later : (rs : List Row) (p i : ℕ) → (row_at rs p).undo < (row_at rs i).undo → i ≡ newer_of rs p i
-newer_later rs p i h = sym (rw (lt_true (row_at rs p).undo (row_at rs i).undo h))
-
-pub newer_earlier : (rs : List Row) (p i : ℕ) → (row_at rs i).undo ≤ (row_at rs p).undo → p ≡ newer_of rs p i
-newer_earlier rs p i h = sym (rw (lt_false (row_at rs p).undo (row_at rs i).undo h))
-
-pub record TopTo (rs : List Row) (i p : ℕ) : Type 0 where
-  pub within : p < i
-  pub most : (j : ℕ) → j < i → (row_at rs j).undo ≤ (row_at rs p).undo
-  pub first : (j : ℕ) → j < p → (row_at rs j).undo < (row_at rs p).undo
-
-pub top_one : (rs : List Row) → TopTo rs 1 0
-top_one rs = record { within = omega arith; most = λ j h. zero_most j (omega arith); first = λ j h. absurd (omega arith) }
+-- The first of eight rows that has the largest number due: past the last row there is nothing due.
+pub top_first : (rs : List Row) (p : ℕ) → length rs ≤ 8 → IsFirstMaxByKey (λ (r : Row). r.undo) rs 8 p → Top rs p
+top_first rs p l h = record { most = λ j. go j (dec_lt j 8); first = λ j k. h.2 j no_row k }
   where
-    zero_most : (j : ℕ) → j ≡ 0 → (row_at rs j).undo ≤ (row_at rs 0).undo
-    zero_most j e = rw e (le_refl (row_at rs 0).undo)
-
-pub top_more : (rs : List Row) (i p q : ℕ) → q ≡ newer_of rs p i → TopTo rs i p → TopTo rs (i + 1) q
-top_more rs i p q e h = go (case (ltb (row_at rs p).undo (row_at rs i).undo))
-  where
-    go : Case (ltb (row_at rs p).undo (row_at rs i).undo) → TopTo rs (i + 1) q
-    go (yes! t) =
-        let o : q ≡ i = e ∙ rw t in
-        let l : (row_at rs p).undo < (row_at rs i).undo = true_lt (row_at rs p).undo (row_at rs i).undo t in
-        subst (TopTo rs (i + 1)) (sym o)
-        (record { within = omega arith; most = λ j k. here j k l (dec_lt j i); first = λ j k. omega (arith, h.most j k, l) })
-      where
-        here : (j : ℕ) → j < i + 1 → (row_at rs p).undo < (row_at rs i).undo → Dec (j < i) → (row_at rs j).undo ≤ (row_at rs i).undo
-        here j k l (yes n) = omega (arith, h.most j n, l)
-        here j k l (no n) = let o : j ≡ i = omega arith in rw o (le_refl (row_at rs i).undo)
-    go (no! t) =
-        let o : q ≡ p = e ∙ rw t in
-        let l : (row_at rs i).undo ≤ (row_at rs p).undo = false_lt (row_at rs p).undo (row_at rs i).undo t in
-        subst (TopTo rs (i + 1)) (sym o)
-        (record { within = omega (arith, h.within); most = λ j k. here j k l (dec_lt j i); first = h.first })
-      where
-        here : (j : ℕ) → j < i + 1 → (row_at rs i).undo ≤ (row_at rs p).undo → Dec (j < i) → (row_at rs j).undo ≤ (row_at rs p).undo
-        here j k l (yes n) = h.most j n
-        here j k l (no n) = let o : j ≡ i = omega arith in rw o l
-
--- Past the last row there is nothing due.
-pub top_all : (rs : List Row) (i p : ℕ) → length rs ≤ i → TopTo rs i p → Top rs p
-top_all rs i p l h = record { most = λ j. go j (dec_lt j i); first = h.first }
-  where
-    go : (j : ℕ) → Dec (j < i) → (row_at rs j).undo ≤ (row_at rs p).undo
-    go j (yes k) = h.most j k
+    go : (j : ℕ) → Dec (j < 8) → (row_at rs j).undo ≤ (row_at rs p).undo
+    go j (yes k) = h.1 j no_row k
     go j (no k) = let e : row_at rs j ≡ no_row = get_or-eq_default rs no_row {n = j} (omega arith) in rw e (omega arith)
 
 top_rest : (r : Row) (rs : List Row) (p : ℕ) → Top (r ∷ rs) (suc p) → Top rs p

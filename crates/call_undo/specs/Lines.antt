@@ -1,5 +1,5 @@
 -- Lines undone as the program undoes them: each is read from the log, which has grown since.
-use Rattle.std.specs.Prelude.{ℕ, ◌-◌, ◌≤◌, ◌<◌, ◌≡◌, ◌⊎◌, Bool}
+use Rattle.std.specs.Prelude.{ℕ, ◌+◌, ◌-◌, ◌≤◌, ◌<◌, ◌≡◌, ◌⊎◌, Bool}
 use Rattle.std.proofs.Math.Path.{refl, sym, ap, subst}
 use Rattle.std.proofs.Common.{◌∙◌, lit<}
 use Rattle.std.proofs.Math.Logic.{⊎_elim}
@@ -56,31 +56,32 @@ ReturnsTurn n m wp₀ wl₀ wp wl t mark row x =
     (s : Run) (l : List Rec) (ys : List model.Line) → Shows n m wp₀ wl₀ t s → Grown l s.log → AllFit 1 l → Linked l ys → row.undo ≡ next_undo ys → row.pending ≡ length ys
     → Leaves n m wp wl mark row ys s x
 
--- Where it has come to: run `now`, with `left` lines to go, which give what the whole gives.
-pub record Undoing (n m : ℕ) (wp wl : List ℕ) (t : program.Run) (mark : ℕ) (row : Row) (last at left : ℕ) (l : List Rec) (ys : List model.Line) (s : Run) : Type 0 where
+-- Where it has come to: a run, and the row as it is `now`, which leads to the lines that are left; these give what the whole gives.
+pub record Undoing (n m : ℕ) (wp wl : List ℕ) (t : program.Run) (mark : ℕ) (row now : Row) (l : List Rec) (ys : List model.Line) (s : Run) : Type 0 where
   pub run : Run
   pub lines : List model.Line
   pub shows : Shows n m wp wl t run
   pub grown : Grown l run.log
   pub linked : Linked l lines
-  pub newest : at ≡ next_undo lines
-  pub count : left ≡ length lines
+  pub batch : now.batch ≡ row.batch
+  pub newest : now.undo ≡ next_undo lines
+  pub count : now.pending ≡ length lines
   pub rest : undo_above mark row.batch lines run ≡ undo_above mark row.batch ys s
   pub keeps : kept mark lines ≡ kept mark ys
-  pub lasts : last_after mark row.batch lines run last ≡ last_after mark row.batch ys s row.last
+  pub lasts : last_after mark row.batch lines run now.last ≡ last_after mark row.batch ys s row.last
 
-abbrev pub Undoes : (n m : ℕ) (wp₀ wl₀ wp wl : List ℕ) (t₀ t : program.Run) (mark : ℕ) (row : Row) (last at left : ℕ) → Type 0
-Undoes n m wp₀ wl₀ wp wl t₀ t mark row last at left =
+abbrev pub Undoes : (n m : ℕ) (wp₀ wl₀ wp wl : List ℕ) (t₀ t : program.Run) (mark : ℕ) (row now : Row) → Type 0
+Undoes n m wp₀ wl₀ wp wl t₀ t mark row now =
     (s : Run) (l : List Rec) (ys : List model.Line) → Shows n m wp₀ wl₀ t₀ s → Grown l s.log → AllFit 1 l → Linked l ys → row.undo ≡ next_undo ys → row.pending ≡ length ys
-    → Undoing n m wp wl t mark row last at left l ys s
+    → Undoing n m wp wl t mark row now l ys s
 
 -- A line that the log leads to is read as it is.
 pub line_read : {n m : ℕ} {wp wl : List ℕ} {t : program.Run} {s : Run} → Shows n m wp wl t s → (l : List Rec) → Grown l s.log → AllFit 1 l → (at : ℕ) (x : Line) → TellsLine m wl at x
     → (y : model.Line) (ys : List model.Line) → Linked l (y ∷ ys) → at ≡ y.number → x ≡ shown_line y ys
 line_read {m = m} {wl = wl} {s = s} h l g f at x told y ys k e = told l y ys (reads_grown m wl l s.log h.log h.size f g) k e
 
-pub undoes_start : {n m : ℕ} {wp wl : List ℕ} {t : program.Run} (mark : ℕ) (row : Row) → Undoes n m wp wl wp wl t t mark row row.last row.undo row.pending
-undoes_start mark row s l ys h g f k e c = record { run = s; lines = ys; shows = h; grown = g; linked = k; newest = e; count = c; rest = refl; keeps = refl; lasts = refl }
+pub undoes_start : {n m : ℕ} {wp wl : List ℕ} {t : program.Run} (mark : ℕ) (row : Row) → Undoes n m wp wl wp wl t t mark row row
+undoes_start mark row s l ys h g f k e c = record { run = s; lines = ys; shows = h; grown = g; linked = k; batch = refl; newest = e; count = c; rest = refl; keeps = refl; lasts = refl }
 
 -- Nothing more is above the mark.
 record Ends (mark batch : ℕ) (zs : List model.Line) (u : Run) (last : ℕ) : Type 0 where
@@ -93,38 +94,39 @@ unfolding undo_above kept last_after next_undo
 ends_low mark batch [] u last h = record { run = refl; keeps = refl; last_is = refl }
 ends_low mark batch (z ∷ zs) u last h = let f = lt_false mark z.number h in record { run = rw f; keeps = rw f; last_is = rw f }
 
-module _ {n m : ℕ} {wp₀ wl₀ wp wl : List ℕ} {t₀ t : program.Run} (mark : ℕ) (row : Row) (last at left : ℕ) (w : Undoes n m wp₀ wl₀ wp wl t₀ t mark row last at left) where
-  pub undoes_end : (x : Turn) → x ≡ record { run = t; row = record { batch = row.batch; last = last; undo = at; pending = left } } → (at ≤ mark) ⊎ (left ≡ 0) → ReturnsTurn n m wp₀ wl₀ wp wl t₀ mark row x
+module _ {n m : ℕ} {wp₀ wl₀ wp wl : List ℕ} {t₀ t : program.Run} (mark : ℕ) (row now : Row) (w : Undoes n m wp₀ wl₀ wp wl t₀ t mark row now) where
+  pub undoes_end : (x : Turn) → x ≡ record { run = t; row = now } → (now.undo ≤ mark) ⊎ (now.pending ≡ 0) → ReturnsTurn n m wp₀ wl₀ wp wl t₀ mark row x
   unfolding next_undo
   undoes_end x is stop s l ys h g f k e c =
       let i = w s l ys h g f k e c in
-      let low : next_undo i.lines ≤ mark = ⊎_elim (λ (q : at ≤ mark). subst (λ z. z ≤ mark) i.newest q) (λ (q : left ≡ 0). none_low i.lines (sym i.count ∙ q)) stop in
-      let z = ends_low mark row.batch i.lines i.run last low in
+      let low : next_undo i.lines ≤ mark = ⊎_elim (λ (q : now.undo ≤ mark). subst (λ z. z ≤ mark) i.newest q) (λ (q : now.pending ≡ 0). none_low i.lines (sym i.count ∙ q)) stop in
+      let z = ends_low mark row.batch i.lines i.run now.last low in
       let same : kept mark ys ≡ i.lines = sym i.keeps ∙ z.keeps in
       record {
         shows = subst (λ (y : Turn). Shows n m wp wl y.run (undo_above mark row.batch ys s)) (sym is) (subst (Shows n m wp wl t) (sym z.run ∙ i.rest) i.shows);
-        row_is = ap (λ (y : Turn). y.row) is ∙ (λ j. record { batch = row.batch; last = (sym z.last_is ∙ i.lasts) j; undo = (i.newest ∙ ap next_undo (sym same)) j; pending = (i.count ∙ ap (λ (v : List model.Line). length v) (sym same)) j });
+        row_is = ap (λ (y : Turn). y.row) is ∙ (λ j. record { batch = i.batch j; last = (sym z.last_is ∙ i.lasts) j; undo = (i.newest ∙ ap next_undo (sym same)) j; pending = (i.count ∙ ap (λ (v : List model.Line). length v) (sym same)) j });
       }
     where
       none_low : (zs : List model.Line) → length zs ≡ 0 → next_undo zs ≤ mark
       none_low [] q = omega arith
       none_low (y ∷ ys) q = absurd (omega arith)
 
-  pub undoes_on : {wp' wl' : List ℕ} (u : program.Run) (x : Line) → (left ≡ 0 → ⊥) → mark < at → TellsLine m wl at x
-      → ((s : Run) (y : model.Line) (ys : List model.Line) → Shows n m wp wl t s → x ≡ shown_line y ys → Shows n m wp' wl' u (undo_line row.batch (next_undo ys) y s))
-      → Undoes n m wp₀ wl₀ wp' wl' t₀ u mark row u.logged x.below (left - 1)
+  pub undoes_on : {wp' wl' : List ℕ} (u : program.Run) (x : Line) (left : ℕ) → now.pending ≡ left + 1 → mark < now.undo → TellsLine m wl now.undo x
+      → ((s : Run) (y : model.Line) (ys : List model.Line) → Shows n m wp wl t s → x ≡ shown_line y ys → Shows n m wp' wl' u (undo_line now.batch (next_undo ys) y s))
+      → Undoes n m wp₀ wl₀ wp' wl' t₀ u mark row (record { batch = now.batch; last = u.logged; undo = x.below; pending = left })
   unfolding next_undo undo_above kept last_after
-  undoes_on {wp'} {wl'} u x z high told f s l ys h g q k e c = let i = w s l ys h g q k e c in turn i i.lines refl
+  undoes_on {wp'} {wl'} u x left z high told f s l ys h g q k e c = let i = w s l ys h g q k e c in turn i i.lines refl
     where
-      turn : (i : Undoing n m wp wl t mark row last at left l ys s) (zs : List model.Line) → i.lines ≡ zs → Undoing n m wp' wl' u mark row u.logged x.below (left - 1) l ys s
-      turn i [] o = absurd (z (i.count ∙ ap (λ (v : List model.Line). length v) o))
+      turn : (i : Undoing n m wp wl t mark row now l ys s) (zs : List model.Line) → i.lines ≡ zs
+          → Undoing n m wp' wl' u mark row (record { batch = now.batch; last = u.logged; undo = x.below; pending = left }) l ys s
+      turn i [] o = absurd (omega (arith, z, i.count, ap (λ (v : List model.Line). length v) o))
       turn i (y ∷ zs) o =
           let linked : Linked l (y ∷ zs) = subst (Linked l) o i.linked in
-          let number : at ≡ y.number = i.newest ∙ ap next_undo o in
+          let number : now.undo ≡ y.number = i.newest ∙ ap next_undo o in
           let above : ltb mark y.number ≡ true = lt_true mark y.number (subst (λ (v : ℕ). mark < v) number high) in
-          let shown : x ≡ shown_line y zs = line_read i.shows l i.grown q at x told y zs linked number in
+          let shown : x ≡ shown_line y zs = line_read i.shows l i.grown q now.undo x told y zs linked number in
           let r : Run = undo_line row.batch (next_undo zs) y i.run in
-          let sh : Shows n m wp' wl' u r = f i.run y zs i.shows shown in
+          let sh : Shows n m wp' wl' u r = subst (λ (v : ℕ). Shows n m wp' wl' u (undo_line v (next_undo zs) y i.run)) i.batch (f i.run y zs i.shows shown) in
           let logged : u.logged ≡ r.due - 1 = omega (arith, sh.due) in
           record {
             run = r;
@@ -132,11 +134,12 @@ module _ {n m : ℕ} {wp₀ wl₀ wp wl : List ℕ} {t₀ t : program.Run} (mark
             shows = sh;
             grown = grown_line l row.batch (next_undo zs) y i.run i.grown;
             linked = linked_rest l y zs linked;
+            batch = i.batch;
             newest = ap (λ (v : Line). v.below) shown;
-            count = omega (arith, i.count, ap (λ (v : List model.Line). length v) o);
+            count = omega (arith, z, i.count, ap (λ (v : List model.Line). length v) o);
             rest = sym (ap (λ (v : List model.Line). undo_above mark row.batch v i.run) o ∙ ap (λ (v : Bool). pick v (undo_above mark row.batch zs r) i.run) above) ∙ i.rest;
             keeps = sym (ap (kept mark) o ∙ ap (λ (v : Bool). pick v (kept mark zs) (y ∷ zs)) above) ∙ i.keeps;
-            lasts = ap (last_after mark row.batch zs r) logged ∙ sym (ap (λ (v : List model.Line). last_after mark row.batch v i.run last) o ∙ ap (λ (v : Bool). pick v (last_after mark row.batch zs r (r.due - 1)) last) above) ∙ i.lasts;
+            lasts = ap (last_after mark row.batch zs r) logged ∙ sym (ap (λ (v : List model.Line). last_after mark row.batch v i.run now.last) o ∙ ap (λ (v : Bool). pick v (last_after mark row.batch zs r (r.due - 1)) now.last) above) ∙ i.lasts;
           }
 
 -- ---- a batch's marks, and a whole batch

@@ -215,10 +215,10 @@ module _ {n m : ℕ} {wp₀ wl₀ wp wl : List ℕ} {t₀ t : program.Run} {rows
         let i = w s l cs h g f d k in
         subst (Shows n m wp wl t) (sym (undo_idle left i.batches i.run (all_idle l rows i.batches i.due p top z)) ∙ i.rest) i.shows
 
-    pub settles_on : {wp' wl' : List ℕ} (x : Turn) → (left ≡ 0 → ⊥) → ((row_at rows p).pending ≡ 0 → ⊥) → UndoesTurn n m wp wl wp' wl' t (row_at rows p) x
-        → Settles n m wp₀ wl₀ wp' wl' t₀ x.run rows₀ (set rows p x.row) count (left - 1)
+    pub settles_on : {wp' wl' : List ℕ} (x : Turn) (after : ℕ) → left ≡ after + 1 → ((row_at rows p).pending ≡ 0 → ⊥) → UndoesTurn n m wp wl wp' wl' t (row_at rows p) x
+        → Settles n m wp₀ wl₀ wp' wl' t₀ x.run rows₀ (set rows p x.row) count after
     unfolding with_lines row_of without_newest rest_of
-    settles_on {wp'} {wl'} x nz z turn s l cs h g f d k =
+    settles_on {wp'} {wl'} x after one z turn s l cs h g f d k =
         let i = w s l cs h g f d k in
         let a = due_top l i.due p top z in
         let b : Batch = a.batch in
@@ -228,8 +228,8 @@ module _ {n m : ℕ} {wp₀ wl₀ wp wl : List ℕ} {t₀ t : program.Run} {rows
         let less : without_newest b i.batches ≡ a.before ++ b' ∷ a.later =
         ap₂ (λ (v : List model.Line) (cs : List Batch). change_batch b.number (with_lines (rest_of v)) cs) c.is a.whole
         ∙ change_mid (with_lines c.later) a.before b a.later (distinct_mid a.before b a.later (subst Distinct a.whole i.distinct)) in
-        let step : undo_all left i.batches i.run ≡ undo_all (left - 1) (without_newest b i.batches) (undo_newest b.lines b.number i.run) =
-        undo_turn left (left - 1) i.batches i.run b (omega arith) a.is in
+        let step : undo_all left i.batches i.run ≡ undo_all after (without_newest b i.batches) (undo_newest b.lines b.number i.run) =
+        undo_turn left after i.batches i.run b (omega (arith, one)) a.is in
         record {
           run = undo_newest b.lines b.number i.run;
           batches = a.before ++ b' ∷ a.later;
@@ -237,7 +237,7 @@ module _ {n m : ℕ} {wp₀ wl₀ wp wl : List ℕ} {t₀ t : program.Run} {rows
           grown = grown_newest l b.lines b.number i.run i.grown;
           due = subst (λ (v : Row). Due l (set rows p v) (a.before ++ b' ∷ a.later)) (sym r.row) (a.change b' (linked_rest l c.first c.later c.linked));
           distinct = subst Distinct less (distinct_change b.number (with_lines (rest_of b.lines)) i.batches (λ v. refl) i.distinct);
-          rest = ap (λ (v : List Batch). undo_all (left - 1) v (undo_newest b.lines b.number i.run)) (sym less) ∙ sym step ∙ i.rest;
+          rest = ap (λ (v : List Batch). undo_all after v (undo_newest b.lines b.number i.run)) (sym less) ∙ sym step ∙ i.rest;
         }
 
 -- ---- the three rounds

@@ -22,7 +22,7 @@ ghost use Rattle.call_undo.specs.Grown.{Grown};
 ghost use Rattle.call_undo.specs.Lines.{ReturnsTurn};
 ghost use Rattle.call_undo.specs.Marking.{MarksTurn, Starts, MarkedAll};
 ghost use Rattle.call_undo.specs.Ending.{EndsTurn};
-ghost use Rattle.call_undo.specs.Due.{Due, Top, newer_of};
+ghost use Rattle.call_undo.specs.Due.{Due, Top};
 ghost use Rattle.call_undo.specs.Settling.{UndoesTurn};
 
 use codec_desk::used_rows;
@@ -83,31 +83,20 @@ pub fn undo_above(
     ensures { ReturnsTurn n m wp.old wl.old wp.new wl.new t mark row result }
 {
     let mut run = t;
-    let mut last = row.last;
-    let mut at = row.undo;
-    let mut left = row.pending;
-    while left > 0 {
-        if at <= mark {
-            let row = Row {
-                batch: row.batch,
-                last,
-                undo: at,
-                pending: left,
-            };
+    let mut row = row;
+    for left in (0..row.pending).rev() {
+        if row.undo <= mark {
             return Turn { run, row };
         }
-        let x = line_at(wl, m, at);
+        let x = line_at(wl, m, row.undo);
         run = undo_line(wp, wl, n, m, run, row.batch, x);
-        last = run.logged;
-        at = x.below;
-        left -= 1;
+        row = Row {
+            last: run.logged,
+            undo: x.below,
+            pending: left,
+            ..row
+        };
     }
-    let row = Row {
-        batch: row.batch,
-        last,
-        undo: at,
-        pending: left,
-    };
     Turn { run, row }
 }
 
@@ -154,10 +143,8 @@ fn mark_row(
         return Turn { run: u, row };
     }
     let row = Row {
-        batch: row.batch,
         last: u.logged,
-        undo: row.undo,
-        pending: row.pending,
+        ..row
     };
     Turn { run: u, row }
 }
@@ -178,16 +165,13 @@ fn mark_all(
         → MarkedAll n m wp.new wl.new result s (undoing.mark_all (batches.open_batches s.log) s) }
 {
     let mut run = t;
-    let mut r = rows;
-    let mut i = 0;
-    while i < used {
-        let x = mark_row(wp, wl, n, m, run, r[i], marked[i]);
+    let mut rows = rows;
+    for i in 0..used {
+        let x = mark_row(wp, wl, n, m, run, rows[i], marked[i]);
         run = x.run;
-        let row = x.row;
-        r[i] = row;
-        i += 1;
+        rows[i] = x.row;
     }
-    Round { run, rows: r }
+    Round { run, rows }
 }
 
 // 01: "then in that order an 8 for each with nothing pending": the row's batch.
@@ -216,34 +200,21 @@ fn end_idle(
         → Shows n m wp.new wl.new result (undoing.end_idle bs s) }
 {
     let mut run = t;
-    let mut i = 0;
-    while i < used {
-        run = end_row(wp, wl, n, m, run, rows[i]);
-        i += 1;
+    for row in &rows[..used] {
+        run = end_row(wp, wl, n, m, run, *row);
     }
     run
 }
 
-// Of rows p and i, the one with the larger number due; p if they are equal.
-fn newer_row(rows: [Row; 8], p: usize, i: usize) -> usize
-    requires { (p < 8) × (i < 8) }
-    ensures { result ≡ newer_of rows p i }
-{
-    if rows[p].undo < rows[i].undo {
-        return i;
-    }
-    p
-}
-
-// The row with the largest number due.
+// The row with the largest number due, the first of them: `max_by_key` takes the last of equals.
 fn newest_row(rows: [Row; 8]) -> usize
     ensures { (result < 8) × Top rows result }
 {
     let mut p = 0;
-    let mut i = 1;
-    while i < 8 {
-        p = newer_row(rows, p, i);
-        i += 1;
+    for i in 1..8 {
+        if rows[p].undo < rows[i].undo {
+            p = i;
+        }
     }
     p
 }
@@ -253,13 +224,12 @@ fn undo_newest(wp: &mut [u8], wl: &mut [u8], n: usize, m: usize, t: Run, row: Ro
     requires { HasAreas n m wp.old wl.old × (0 < row.pending) }
     ensures { UndoesTurn n m wp.old wl.old wp.new wl.new t row result }
 {
-    let x = line_at(wl, m, row.undo);
-    let u = undo_line(wp, wl, n, m, t, row.batch, x);
+    let line = line_at(wl, m, row.undo);
+    let u = undo_line(wp, wl, n, m, t, row.batch, line);
     let left = Row {
-        batch: row.batch,
-        last: row.last,
-        undo: x.below,
+        undo: line.below,
         pending: row.pending - 1,
+        ..row
     };
     if row.pending != 1 {
         return Turn { run: u, row: left };
@@ -283,18 +253,15 @@ fn undo_all(
         → Shows n m wp.new wl.new result (undoing.undo_all count cs s) }
 {
     let mut run = t;
-    let mut r = rows;
-    let mut left = count;
-    while left > 0 {
-        let p = newest_row(r);
-        if r[p].pending == 0 {
+    let mut rows = rows;
+    for _ in 0..count {
+        let p = newest_row(rows);
+        if rows[p].pending == 0 {
             return run;
         }
-        let x = undo_newest(wp, wl, n, m, run, r[p]);
+        let x = undo_newest(wp, wl, n, m, run, rows[p]);
         run = x.run;
-        let row = x.row;
-        r[p] = row;
-        left -= 1;
+        rows[p] = x.row;
     }
     run
 }

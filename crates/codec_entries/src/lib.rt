@@ -12,6 +12,7 @@ ghost use Rattle.codec_entries.specs.Arrays.{splice};
 
 use codec_bytes::{get32, set32};
 use def_layout::{Entry, ROOM};
+use std::array;
 
 fn read_entry(b: &[u8], from: usize, i: usize) -> Entry
     requires { (from + 112 ≤ length b.now) × (i < room) }
@@ -28,11 +29,7 @@ pub fn read_entries(b: &[u8], from: usize) -> [Entry; ROOM]
     requires { from + 112 ≤ length b.now }
     ensures { result ≡ tab room (read_entry b.now from) }
 {
-    let mut es = [Entry { key: 0, val: 0 }; ROOM];
-    for i in 0..ROOM {
-        es[i] = read_entry(b, from, i);
-    }
-    es
+    array::from_fn(|i| read_entry(b, from, i))
 }
 
 fn write_entry(b: &mut [u8], at: usize, e: Entry)
@@ -47,20 +44,14 @@ fn write_entry(b: &mut [u8], at: usize, e: Entry)
 fn nth(es: [Entry; ROOM], k: usize) -> Entry
     ensures { result ≡ entry_at es k }
 {
-    if k < ROOM {
-        return es[k];
-    }
-    Entry { key: 0, val: 0 }
+    es.get(k).copied().unwrap_or_default()
 }
 
 // Entry i of the n in use, or none past them.
 pub fn entry_in(es: [Entry; ROOM], n: usize, i: usize) -> Entry
     ensures { result ≡ entry_at (used n es) i }
 {
-    if i < n {
-        return nth(es, i);
-    }
-    Entry { key: 0, val: 0 }
+    if i < n { nth(es, i) } else { Entry::default() }
 }
 
 // The first n entries go to the 112 bytes from `from` on, and zeros where the others would stand.
@@ -68,15 +59,8 @@ pub fn write_entries(b: &mut [u8], from: usize, es: [Entry; ROOM], n: usize)
     requires { from + 112 ≤ length b.old }
     ensures { b.new ≡ patch b.old from (entries_bytes (used n es)) }
 {
-    let mut i = 0;
-    while i < ROOM {
-        if i < n {
-            write_entry(b, from + 8 * i, es[i]);
-            i += 1;
-            continue;
-        }
-        write_entry(b, from + 8 * i, Entry { key: 0, val: 0 });
-        i += 1;
+    for i in 0..ROOM {
+        write_entry(b, from + 8 * i, entry_in(es, n, i));
     }
 }
 
@@ -84,33 +68,27 @@ pub fn write_entries(b: &mut [u8], from: usize, es: [Entry; ROOM], n: usize)
 pub fn blank_from(es: [Entry; ROOM], n: usize) -> bool
     ensures { result ≡ blank (drop n es) }
 {
-    let mut i = n;
-    while i < ROOM {
-        if es[i].key != 0 {
+    for i in n..ROOM {
+        if es[i] != Entry::default() {
             return false;
         }
-        if es[i].val != 0 {
-            return false;
-        }
-        i += 1;
     }
     true
 }
 
-// SEARCH IN A PAGE, in 8 bits: the place of the first of n entries whose key is not below k, or n. Where an insert or delete is redone at a page's
-// own bytes, `record_leaf` has the same search of those.
+// SEARCH IN A PAGE, in 8 bits, as its callers count entries (`position` gives a usize, to be brought back to 8 bits: no plainer): the place
+// of the first of n entries whose key is not below k, or n. Where an insert or delete is redone at a page's own bytes, `record_leaf` has
+// the same search of those.
 pub fn find(es: [Entry; ROOM], n: u8, k: u32) -> u8
     requires { n ≤ room }
     ensures { (result ≡ place k (used n es)) × (result ≤ n) }
 {
-    let mut place = 0;
-    while place < n {
+    for place in 0..n {
         if es[place as usize].key >= k {
             return place;
         }
-        place += 1;
     }
-    place
+    n
 }
 
 // The first i entries of es, and behind them those of fs from place k on, as many as there is room for.
@@ -118,11 +96,7 @@ fn spliced(es: [Entry; ROOM], i: usize, fs: [Entry; ROOM], k: usize) -> [Entry; 
     requires { (i ≤ room) × (k ≤ room) }
     ensures { result ≡ tab room (splice es i fs k) }
 {
-    let mut r = es;
-    for j in i..14 {
-        r[j] = nth(fs, k + (j - i));
-    }
-    r
+    array::from_fn(|j| if j < i { es[j] } else { nth(fs, k + (j - i)) })
 }
 
 // With e put in at place i of the n in use. Of fifteen the first fourteen stay.
@@ -167,14 +141,7 @@ pub fn children_fit(es: [Entry; ROOM], n: usize) -> bool
     requires { n ≤ room }
     ensures { result ≡ ten_bits (used n es) }
 {
-    let mut i = 0;
-    while i < n {
-        if es[i].val >= 1024 {
-            return false;
-        }
-        i += 1;
-    }
-    true
+    es[..n].iter().all(|e| e.val < 1024)
 }
 
 // Whether n entries and m others are the same.
@@ -182,18 +149,5 @@ pub fn same_list(es: [Entry; ROOM], n: usize, fs: [Entry; ROOM], m: usize) -> bo
     requires { (n ≤ room) × (m ≤ room) }
     ensures { result ≡ same_entries (used n es) (used m fs) }
 {
-    if n != m {
-        return false;
-    }
-    let mut i = 0;
-    while i < n {
-        if es[i].key != fs[i].key {
-            return false;
-        }
-        if es[i].val != fs[i].val {
-            return false;
-        }
-        i += 1;
-    }
-    true
+    es[..n] == fs[..m]
 }

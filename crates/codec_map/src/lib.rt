@@ -23,19 +23,10 @@ fn ones_in(w: u32, k: usize) -> usize
     if k == 0 {
         return 0;
     }
-    u32::count_ones(w >> (32 - k)) as usize
+    (w >> (32 - k)).count_ones() as usize
 }
 
-fn at_most_32(x: usize) -> usize
-    ensures { (result ≤ x) × (result ≤ 32) × (0 < x → 0 < result) × (result < x → result ≡ 32) }
-{
-    if x < 32 {
-        return x;
-    }
-    32
-}
-
-// How many of the first n pages are marked as used.
+// How many of the first n pages are marked as used. A turn goes on by a word's 32 marks, and the last by fewer: no `for` says that more plainly.
 pub fn count_used(es: [Entry; ROOM], n: usize) -> usize
     requires { n ≤ most_pages }
     ensures { result ≡ rules.ones (take n (marks es)) }
@@ -43,7 +34,7 @@ pub fn count_used(es: [Entry; ROOM], n: usize) -> usize
     let mut p = 0;
     let mut s = 0;
     while p < n {
-        let k = at_most_32(n - p);
+        let k = (n - p).min(32);
         s += ones_in(map_word(es, p / 32), k);
         p += k;
     }
@@ -61,10 +52,11 @@ fn clear_in(w: u32, k: usize) -> u32
 fn last_zeros(c: u32) -> usize
     ensures { result ≡ count_trailing_zeros 32 c }
 {
-    u32::trailing_zeros(c) as usize
+    c.trailing_zeros() as usize
 }
 
-// "The page taken is the free one with the highest number", of the first n; 0 if there is none.
+// "The page taken is the free one with the highest number", of the first n; 0 if there is none. From the last word down, which
+// can be a part of one: no `for` says that more plainly.
 pub fn highest_free(es: [Entry; ROOM], n: usize) -> usize
     requires { n ≤ most_pages }
     ensures { result ≡ highest n (marks es) }
@@ -104,13 +96,11 @@ fn with_word(mut es: [Entry; ROOM], j: usize, w: u32) -> [Entry; ROOM]
     requires { j < 28 }
     ensures { (q : ℕ) → map_word result q ≡ pick (eqb q j) w (map_word es q) }
 {
-    let i = j / 2;
-    let e = es[i];
     if j % 2 == 0 {
-        es[i] = Entry { key: w, val: e.val };
-        return es;
+        es[j / 2].key = w;
+    } else {
+        es[j / 2].val = w;
     }
-    es[i] = Entry { key: e.key, val: w };
     es
 }
 

@@ -11,7 +11,7 @@ use Rattle.def_base.specs.Tests.{pick, Case, yes!, no!, case, clash, true_lt, fa
 use Rattle.def_layout.specs.declared.Entry.{Entry}
 use Rattle.def_layout.specs.Entries.{no_entry}
 use Rattle.def_layout.specs.Numbers.{be32, put32, tab, read_entry, entries_bytes, same_bytes}
-use Rattle.def_layout.specs.Pages.{Page, page_kind, page_kind_number, map_bits}
+use Rattle.def_layout.specs.Pages.{page_kind, page_kind_number, map_bits}
 use Rattle.def_layout.specs.PageBytes.{page_front, page_body, page_bytes, page_fields, read_entries, read_mark, marks_word, marks_bytes, page, other, block_by, read_block}
 use Rattle.def_model.specs.Areas.{block_ok}
 use Rattle.law_bytes.specs.Words.{Bytes, be32_lt, put_be32_at}
@@ -20,7 +20,7 @@ use Rattle.law_bytes.specs.Chunks.{chunks_is}
 use Rattle.law_bytes.specs.Same.{same_refl, same_false}
 use Rattle.law_bytes.specs.EntryBytes.{Unused, entries_read, entries_unused}
 use Rattle.law_bytes.specs.Blank.{blank, blank_from, from_blank}
-use Rattle.codec_page.specs.Typed.{shown_page}
+use Rattle.codec_page.specs.Typed.{shown_page, has_marks, marks_none, number_entries, number_marks}
 use Rattle.law_bytes.specs.PageKinds.{number_node, number_map, read_entries_node, read_entries_map, read_marks_map, page_body_node, page_body_map}
 use Rattle.law_bytes.specs.Marks.{word_of_marks, word_mark}
 use Rattle.law_bytes.specs.PageBytes.{page_front_length, page_bytes_length, word_0, word_12, front_word}
@@ -28,7 +28,7 @@ use Rattle.codec_page.specs.declared.Page as program
 
 -- 01: "spare bits and unused entries are zero". Of the map's count, which stands for nothing, too.
 unfoldable pub unused_zero : program.Page → Bool
-unused_zero p = pick (ltb p.kind 3) (blank (drop p.count p.entries)) (eqb p.count 0)
+unused_zero p = pick (has_marks p.kind) (eqb p.count 0) (blank (drop p.count p.entries))
 
 -- A quotient by m, by its own digits to the base k.
 digit : (x m k : ℕ) → x / m ≡ x / (m * k) * k + x / m % k
@@ -116,12 +116,14 @@ reads_as_page b w size s t u = go (case (ltb (be32 b 0 / 1073741824) 3)) u
     n : ℕ
     n = be32 b 0 / 4194304 % 16
 
-    go : Case (ltb q 3) → pick (ltb q 3) (blank (drop n (tab 14 (read_entry b 16)))) (eqb n 0) ≡ true → read_block b ≡ page (page_fields b)
+    go : Case (ltb q 3) → pick (has_marks (page_kind q)) (eqb n 0) (blank (drop n (tab 14 (read_entry b 16)))) ≡ true → read_block b ≡ page (page_fields b)
     go (yes! e) u =
-        let v : blank (drop n (tab 14 (read_entry b 16))) ≡ true = rw e at u in
+        let f = marks_none (page_kind q) (number_entries q (true_lt q 3 e)) in
+        let v : blank (drop n (tab 14 (read_entry b 16))) ≡ true = rw f at u in
         block_page b (node_shown b w size s t (true_lt q 3 e) (λ i l h. sym (getD_tab 14 i (read_entry b 16) no_entry h) ∙ blank_from n (tab 14 (read_entry b 16)) v i l))
     go (no! e) u =
-        let v : eqb n 0 ≡ true = rw e at u in
+        let f = number_marks q (false_lt q 3 e) in
+        let v : eqb n 0 ≡ true = rw f at u in
         block_page b (map_shown b w size s t (false_lt q 3 e) (true_eq n 0 v))
 
 -- And only such.
@@ -159,15 +161,16 @@ unused_must b e = go (case (ltb (be32 b 0 / 1073741824) 3))
     n : ℕ
     n = be32 b 0 / 4194304 % 16
 
-    go : Case (ltb q 3) → pick (ltb q 3) (blank (drop n (tab 14 (read_entry b 16)))) (eqb n 0) ≡ true
+    go : Case (ltb q 3) → pick (has_marks (page_kind q)) (eqb n 0) (blank (drop n (tab 14 (read_entry b 16)))) ≡ true
     go (yes! t) =
         let f : page_front (page_fields b) ++ entries_bytes (tab n (read_entry b 16)) ≡ b =
         ap (λ (r : List ℕ). page_front (page_fields b) ++ r) (sym (page_fields_body_node b (true_lt q 3 t))) ∙ e in
-        rw t (from_blank n (tab 14 (read_entry b 16))
+        let g = marks_none (page_kind q) (number_entries q (true_lt q 3 t)) in
+        rw g (from_blank n (tab 14 (read_entry b 16))
         (λ i l h.
         let h' : i < 14 = subst (λ (k : ℕ). i < k) (tab_length 14 (read_entry b 16)) h in
         getD_tab 14 i (read_entry b 16) no_entry h' ∙ entries_unused b 16 n (page_front (page_fields b)) (page_front_length (page_fields b)) f i l h'))
-    go (no! t) = rw t (eq_true n 0 (count_of_map b (false_lt q 3 t) (ap (λ (r : List ℕ). be32 r 0) (sym e) ∙ word_0 (page_fields b))))
+    go (no! t) = let g = number_marks q (false_lt q 3 t) in rw g (eq_true n 0 (count_of_map b (false_lt q 3 t) (ap (λ (r : List ℕ). be32 r 0) (sym e) ∙ word_0 (page_fields b))))
 
 pub unused_breaks : (b : List ℕ) → unused_zero (shown_page b) ≡ false → read_block b ≡ other b
 unused_breaks b u = block_other b (λ e. clash (sym (unused_must b e) ∙ u))

@@ -7,13 +7,13 @@ use Rattle.def_layout.specs.declared.Entry.{Entry}
 use Rattle.def_layout.specs.Entries.{entry_at, ten_bits}
 use Rattle.def_layout.specs.Numbers.{tab, same_bytes, zeros}
 use Rattle.def_layout.specs.Sizes.{page_size}
-use Rattle.def_layout.specs.Pages.{Page, zero_page, page_kind, map_bits, layout, layout_by, own_ok, never_used}
+use Rattle.def_layout.specs.Pages.{Page, zero_page, map_bits, layout, layout_by, own_ok, never_used}
+use Rattle.def_layout.specs.declared.page.PageKind.TheVariants.{Free, Leaf, Index, Map}
 use Rattle.def_layout.specs.PageBytes.{page, read_block}
 use Rattle.law_bytes.specs.Same.{same_true}
 use Rattle.law_bytes.specs.Tables.{tab_length, getD_tab}
 use Rattle.law_bytes.specs.EntryBytes.{used}
 use Rattle.codec_page.specs.Typed.{typed, used_entries, used_marks, map_word, map_mark}
-use Rattle.law_bytes.specs.PageKinds.{kind_map}
 use Rattle.def_model.specs.Areas.{block_ok}
 use Rattle.law_areas.specs.Pages.{zero_read}
 use Rattle.codec_page.specs.declared.Page as program
@@ -38,21 +38,21 @@ unfoldable pub map_layout : ℕ → ℕ → program.Page → Bool
 map_layout n p x = eqb p 0 && (eqb x.own p && (bare_with x 0 && unmarked_from n x.entries))
 
 module _ (n p : ℕ) (x : program.Page) where
-  pub layout_free : x.kind ≡ 0 → layout n p (typed x) ≡ free_layout p x
-  unfolding layout layout_by own_ok never_used typed page_kind used_entries free_layout
+  pub layout_free : x.kind ≡ Free → layout n p (typed x) ≡ free_layout p x
+  unfolding layout layout_by own_ok never_used typed used_entries free_layout
   layout_free k = rw (k, tab_length x.count (entry_at x.entries))
 
-  pub layout_leaf : x.kind ≡ 1 → layout n p (typed x) ≡ leaf_layout p x
-  unfolding layout layout_by own_ok typed page_kind used_entries leaf_layout
+  pub layout_leaf : x.kind ≡ Leaf → layout n p (typed x) ≡ leaf_layout p x
+  unfolding layout layout_by own_ok typed used_entries leaf_layout
   layout_leaf k = rw (k, tab_length x.count (entry_at x.entries))
 
-  pub layout_index : x.kind ≡ 2 → layout n p (typed x) ≡ index_layout p x
-  unfolding layout layout_by own_ok typed page_kind used_entries index_layout
+  pub layout_index : x.kind ≡ Index → layout n p (typed x) ≡ index_layout p x
+  unfolding layout layout_by own_ok typed used_entries index_layout
   layout_index k = rw (k, tab_length x.count (entry_at x.entries))
 
-  pub layout_map : 3 ≤ x.kind → layout n p (typed x) ≡ map_layout n p x
+  pub layout_map : x.kind ≡ Map → layout n p (typed x) ≡ map_layout n p x
   unfolding layout layout_by own_ok typed used_entries used_marks map_layout unmarked_from
-  layout_map k = rw (kind_map x.kind k)
+  layout_map k = rw k
 
 -- A block's test, by what the block is.
 pub keeps_page : (n p : ℕ) (b : List ℕ) (x : Page) → read_block b ≡ page x → block_ok n p (read_block b) ≡ layout n p x

@@ -1,14 +1,15 @@
 -- A working page judged: as a stable one, without its left link (02, U5).
-use Rattle.std.specs.Prelude.{◌≡◌, ◌≢◌, Bool, ◌&&◌, List, [], ◌∷◌, ◌++◌, length, get_or, take}
+use Rattle.std.specs.Prelude.{◌≡◌, Bool, ◌&&◌, List, ◌++◌, length, get_or, take}
 use Rattle.std.proofs.Math.Path.{refl, ap, sym, subst}
-use Rattle.std.proofs.Common.{ap₂, ◌∙◌, add-zero, lit≤, get_or-drop, length-append, length-drop, length-take}
-use Prim.Native.Nat.{ℕ, zero, suc, ◌+◌, ◌-◌, ◌*◌, ◌/◌, ◌%◌, ◌^◌, ◌<◌, ◌≤◌}
+use Rattle.std.proofs.Common.{◌∙◌, add-zero, lit≤, get_or-drop, length-drop, length-take}
+use Prim.Native.Nat.{ℕ, zero, suc, ◌+◌, ◌-◌, ◌*◌, ◌/◌, ◌%◌, ◌<◌}
 use native.Mathlib.Omega.{arith}
 use Rattle.std.proofs.Math.Dec.{eqb, eqb-suc-zero}
 use Rattle.std.proofs.Math.Bool.{true, false}
 use Rattle.std.proofs.Math.ListN.{drop, take-append-drop}
-use Rattle.def_base.specs.Tests.{pick, Case, yes!, no!, case, clash, eq_true, true_eq, neq_false, and_true}
-use Rattle.def_layout.specs.Numbers.{be32, put32, tab, read_entry, same_bytes}
+use Rattle.def_base.specs.Tests.{pick}
+use Rattle.def_layout.specs.Numbers.{be32, put32, tab, same_bytes}
+use Rattle.def_layout.specs.Pages.{page_kind}
 use Rattle.def_layout.specs.PageBytes.{left_by, left_in, without_left}
 use Rattle.law_bytes.specs.Same.{same_refl}
 use Rattle.def_layout.specs.Sizes.{page_size}
@@ -53,7 +54,7 @@ judged_shown t b =
     let h = judged_alike t b in
     let c = judged t b in
     sym (λ i. record {
-      kind = alike_kind b c h i;
+      kind = page_kind (alike_kind b c h i);
       level = alike_level b c h i;
       count = alike_count b c h i;
       right = alike_right b c h i;
@@ -140,11 +141,11 @@ module _ (s : List ℕ) (w : Bytes s) (n p : ℕ) (size : length s ≡ page_size
       ∙ left_is (part s (page_size * p) page_size) (bytes_take page_size (drop (page_size * p) s) (bytes_drop s (page_size * p) w)) there_length
       ∙ ap (λ (x : ℕ). pick (eqb (x / 1073741824) 1) (x / 4 % 1024) 0) (front_there s p)
 
-  pub left_there : (x : ℕ) → x ≡ be32 s (page_size * p) → x / 1073741824 ≡ 1 → x / 4 % 1024 ≡ get_or (lefts_of n s) p 0
-  left_there x e k = sym (there_left ∙ ap (λ (y : ℕ). pick (eqb (y / 1073741824) 1) (y / 4 % 1024) 0) (sym e) ∙ rw (eq_true (x / 1073741824) 1 k))
+  pub left_there : (x : ℕ) → x ≡ be32 s (page_size * p) → eqb (x / 1073741824) 1 ≡ true → x / 4 % 1024 ≡ get_or (lefts_of n s) p 0
+  left_there x e k = sym (there_left ∙ ap (λ (y : ℕ). pick (eqb (y / 1073741824) 1) (y / 4 % 1024) 0) (sym e) ∙ rw k)
 
-  pub no_left_there : (x : ℕ) → x ≡ be32 s (page_size * p) → x / 1073741824 ≢ 1 → 0 ≡ get_or (lefts_of n s) p 0
-  no_left_there x e k = sym (there_left ∙ ap (λ (y : ℕ). pick (eqb (y / 1073741824) 1) (y / 4 % 1024) 0) (sym e) ∙ rw (neq_false k))
+  pub no_left_there : (x : ℕ) → x ≡ be32 s (page_size * p) → eqb (x / 1073741824) 1 ≡ false → 0 ≡ get_or (lefts_of n s) p 0
+  no_left_there x e k = sym (there_left ∙ ap (λ (y : ℕ). pick (eqb (y / 1073741824) 1) (y / 4 % 1024) 0) (sym e) ∙ rw k)
 
 -- ---- copied without it
 
@@ -157,14 +158,14 @@ module _ (b : List ℕ) (w : Bytes b) (size : length b ≡ 128) where
       same = omega arith
   without_is (suc l) e = rw e (sym (rw (eqb-suc-zero l)))
 
-  pub leaf_copied : (x : ℕ) → x ≡ be32 b 0 → x / 1073741824 ≡ 1 → patch b 0 (put32 (x - x / 4 % 1024 * 4)) ≡ without_left b
+  pub leaf_copied : (x : ℕ) → x ≡ be32 b 0 → eqb (x / 1073741824) 1 ≡ true → patch b 0 (put32 (x - x / 4 % 1024 * 4)) ≡ without_left b
   leaf_copied x e k =
-      let f : left_in b ≡ x / 4 % 1024 = left_is b w size ∙ ap (λ y. pick (eqb (y / 1073741824) 1) (y / 4 % 1024) 0) (sym e) ∙ rw (eq_true (x / 1073741824) 1 k) in
+      let f : left_in b ≡ x / 4 % 1024 = left_is b w size ∙ ap (λ y. pick (eqb (y / 1073741824) 1) (y / 4 % 1024) 0) (sym e) ∙ rw k in
       let g : x - x / 4 % 1024 * 4 ≡ be32 b 0 - 4 * (x / 4 % 1024) = omega arith in
       patch_zero b (put32 (x - x / 4 % 1024 * 4)) 4 (put32_length (x - x / 4 % 1024 * 4)) ∙ ap (λ y. put32 y ++ drop 4 b) g ∙ without_is (x / 4 % 1024) f
 
-  pub other_copied : (x : ℕ) → x ≡ be32 b 0 → x / 1073741824 ≢ 1 → b ≡ without_left b
+  pub other_copied : (x : ℕ) → x ≡ be32 b 0 → eqb (x / 1073741824) 1 ≡ false → b ≡ without_left b
   unfolding without_left
   other_copied x e k =
-      let f : left_in b ≡ 0 = left_is b w size ∙ ap (λ y. pick (eqb (y / 1073741824) 1) (y / 4 % 1024) 0) (sym e) ∙ rw (neq_false k) in
+      let f : left_in b ≡ 0 = left_is b w size ∙ ap (λ y. pick (eqb (y / 1073741824) 1) (y / 4 % 1024) 0) (sym e) ∙ rw k in
       sym (rw f)

@@ -1,7 +1,7 @@
 // A page by value, read from and written to the 128 bytes where it stands.
 #![tactic(auto)]
 
-ghost use Rattle.std.specs.Prelude.{◌≡◌, true, ℕ, ◌+◌, ◌-◌, ◌*◌, ◌/◌, ◌%◌, ◌≤◌, ◌<◌, length, get_or};
+ghost use Rattle.std.specs.Prelude.{◌≡◌, eqb, true, ℕ, ◌+◌, ◌-◌, ◌*◌, ◌/◌, ◌%◌, ◌≤◌, ◌<◌, length, get_or};
 ghost use Rattle.def_layout.specs.Sizes.{page_size, most_pages};
 ghost use Rattle.def_layout.specs.Pages.{at, zero_page, layout};
 ghost use Rattle.def_layout.specs.PageBytes.{page_fields, page_front, page_bytes, read_block, without_left};
@@ -21,12 +21,13 @@ ghost use Rattle.def_model.specs.Areas.{block_ok};
 
 use codec_bytes::{copy, get32, is_zero, set32};
 use codec_entries::{blank_from, children_fit, read_entries, write_entries};
+use def_layout::page::PageKind;
 use def_layout::{Entry, MOST_ENTRIES, MOST_PAGES, PAGE_SIZE, ROOM, page};
 
 // What a page holds. Of the map the 14 entries hold the 28 words of its marks, two to an entry.
 #[derive(Clone, Copy)]
 pub struct Page {
-    pub kind: u32,
+    pub kind: PageKind,
     pub level: u32,
     pub count: u32,
     pub right: u32,
@@ -40,10 +41,10 @@ pub struct Page {
 pub fn size_of(x: Page) -> usize
     ensures { ((typed x).entries ≡ used result x.entries) × (result ≤ x.count) }
 {
-    if x.kind < 3 {
-        return x.count as usize;
+    match x.kind {
+        PageKind::Map => 0,
+        _ => x.count as usize,
     }
-    0
 }
 
 pub fn read_page(b: &[u8]) -> Page
@@ -53,7 +54,7 @@ pub fn read_page(b: &[u8]) -> Page
     let w = get32(b, page::FRONT_AT);
     let es = read_entries(b, page::ENTRIES_AT);
     Page {
-        kind: w / page::KIND_UNIT,
+        kind: PageKind::from_bits(w / page::KIND_UNIT),
         level: w / page::LEVEL_UNIT % 16,
         count: w / page::COUNT_UNIT % 16,
         right: w / page::RIGHT_UNIT % 1024,
@@ -64,19 +65,14 @@ pub fn read_page(b: &[u8]) -> Page
     }
 }
 
-// The map's kind in its first word.
-const MAP: u32 = 3 * page::KIND_UNIT;
-
+// The front's first word.
 fn pack_front(p: Page) -> u32
     ensures { result ≡ front_word (typed p) }
 {
-    if p.kind < 3 {
-        return p.kind * page::KIND_UNIT
-            + p.level % 16 * page::LEVEL_UNIT
-            + p.count % 16 * page::COUNT_UNIT
-            + p.right % 1024 * page::RIGHT_UNIT;
-    }
-    MAP + p.level % 16 * page::LEVEL_UNIT + p.right % 1024 * page::RIGHT_UNIT
+    u32::from(p.kind) * page::KIND_UNIT
+        + p.level % 16 * page::LEVEL_UNIT
+        + (size_of(p) as u32) % 16 * page::COUNT_UNIT
+        + p.right % 1024 * page::RIGHT_UNIT
 }
 
 fn write_front(b: &mut [u8], p: Page)
@@ -93,10 +89,10 @@ fn write_front(b: &mut [u8], p: Page)
 fn to_write(p: Page) -> usize
     ensures { result ≡ written p }
 {
-    if p.kind < 3 {
-        return p.count as usize;
+    match p.kind {
+        PageKind::Map => ROOM,
+        _ => p.count as usize,
     }
-    ROOM
 }
 
 pub fn write_page(b: &mut [u8], p: Page)
@@ -108,7 +104,8 @@ pub fn write_page(b: &mut [u8], p: Page)
     write_entries(b, page::ENTRIES_AT, es, to_write(p));
 }
 
-// The page that stands in an area from byte `a` on.
+// The page that stands in an area from byte `a` on. (codec_slot has the same of slots: one generic pair would need a trait with three ghost members, and
+// be longer than the four lines.)
 pub fn read_at(pages: &[u8], a: usize) -> Page
     requires { a + page_size ≤ length pages.now }
     ensures { (typed result ≡ page_fields (part pages.now a page_size)) × (result ≡ shown_page (part pages.now a page_size)) }
@@ -128,14 +125,14 @@ pub fn zero_page() -> Page
     ensures { typed result ≡ zero_page }
 {
     Page {
-        kind: 0,
+        kind: PageKind::Free,
         level: 0,
         count: 0,
         right: 0,
         high: 0,
         lsn: 0,
         own: 0,
-        entries: [Entry { key: 0, val: 0 }; ROOM],
+        entries: [Entry::default(); ROOM],
     }
 }
 
@@ -161,6 +158,13 @@ pub fn right_of(pages: &[u8], n: usize, p: usize) -> u32
     0
 }
 
+// Whether a page's first word is a leaf's.
+fn is_leaf(w: u32) -> bool
+    ensures { result ≡ eqb (w / 1073741824) 1 }
+{
+    PageKind::from_bits(w / page::KIND_UNIT) == PageKind::Leaf
+}
+
 // The left link of working page p, 0 for none: only leaves have one.
 pub fn left_of(pages: &[u8], n: usize, p: usize) -> u32
     requires { HasPages n pages.now }
@@ -170,7 +174,7 @@ pub fn left_of(pages: &[u8], n: usize, p: usize) -> u32
         return 0;
     }
     let w = get32(pages, PAGE_SIZE * p);
-    if w / page::KIND_UNIT != page::LEAF {
+    if !is_leaf(w) {
         return 0;
     }
     w / page::LEFT_UNIT % 1024
@@ -200,7 +204,7 @@ fn copy_unlinked(dst: &mut [u8], src: &[u8])
 {
     copy(dst, src);
     let w = get32(src, page::FRONT_AT);
-    if w / page::KIND_UNIT == page::LEAF {
+    if is_leaf(w) {
         set32(dst, page::FRONT_AT, unlinked(w));
     }
 }
@@ -245,7 +249,7 @@ fn is_clear(es: [Entry; ROOM], i: usize) -> bool
     map_word(es, i / 32) == 0
 }
 
-// Whether no page from the n-th on is marked.
+// Whether no page from the n-th on is marked. The index steps by hand: by a word of 32 where that is clear, which a `for` cannot do.
 pub fn unmarked_from(es: [Entry; ROOM], n: usize) -> bool
     ensures { result ≡ unmarked_from n es }
 {
@@ -350,12 +354,11 @@ fn map_ok(x: Page, n: usize, p: usize) -> bool
 pub fn layout_ok(x: Page, n: usize, p: usize) -> bool
     ensures { result ≡ layout n p (typed x) }
 {
-    let kind = x.kind;
-    match kind {
-        0 => free_ok(x, p),
-        1 => leaf_ok(x, p),
-        2 => index_ok(x, p),
-        _ => map_ok(x, n, p),
+    match x.kind {
+        PageKind::Free => free_ok(x, p),
+        PageKind::Leaf => leaf_ok(x, p),
+        PageKind::Index => index_ok(x, p),
+        PageKind::Map => map_ok(x, n, p),
     }
 }
 
@@ -363,11 +366,10 @@ pub fn layout_ok(x: Page, n: usize, p: usize) -> bool
 fn unused_zero(x: Page) -> bool
     ensures { result ≡ unused_zero x }
 {
-    if x.kind < 3 {
-        let es = x.entries;
-        return blank_from(es, x.count as usize);
+    match x.kind {
+        PageKind::Map => x.count == 0,
+        _ => blank_from(x.entries, x.count as usize),
     }
-    x.count == 0
 }
 
 // Whether page p, which is not the map's, was never used: all of it is zero. Its first word tells most others apart.
@@ -388,13 +390,10 @@ fn is_never_used(b: &[u8], p: usize) -> bool
 fn is_spare_zero(w: u32, working: bool) -> bool
     ensures { result ≡ spare_zero working w }
 {
-    if !working {
-        return w % page::RIGHT_UNIT == 0;
+    if working && is_leaf(w) {
+        return w % page::LEFT_UNIT == 0;
     }
-    if w / page::KIND_UNIT != page::LEAF {
-        return w % page::RIGHT_UNIT == 0;
-    }
-    w % page::LEFT_UNIT == 0
+    w % page::RIGHT_UNIT == 0
 }
 
 // Refusal 3 finds nothing in the 128 bytes of page p of n: a stable page, or a working one, whose left link does not count.

@@ -111,13 +111,10 @@ pub fn read_slot(b: &[u8]) -> Slot
 pub fn kind_number(k: u32) -> u32
     ensures { (result ≡ kind_number (kind_of k)) × (0 < result) × (result < 16) }
 {
-    if k == 0 {
-        return 1;
+    match k {
+        1..=15 => k,
+        _ => 1,
     }
-    if k > 15 {
-        return 1;
-    }
-    k
 }
 
 // The eight words before the entries.
@@ -125,8 +122,8 @@ fn write_words(area: &mut [u8], words: [u32; 8])
     requires { 32 ≤ length area.old }
     ensures { area.new ≡ patch area.old 0 (chunks 8 (word_bytes words)) }
 {
-    for i in 0..8 {
-        set32(area, 4 * i, words[i]);
+    for (i, word) in words.iter().enumerate() {
+        set32(area, 4 * i, *word);
     }
 }
 

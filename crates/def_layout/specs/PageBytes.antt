@@ -4,7 +4,9 @@ use Rattle.std.specs.Prelude.{ℕ, zero, suc, ◌+◌, ◌-◌, ◌*◌, ◌/◌
 use Rattle.def_base.specs.Tests.{pick}
 use Rattle.def_layout.specs.declared.Entry.{Entry}
 use Rattle.def_layout.specs.Numbers.{be32, put32, tab, chunks, read_entry, entries_bytes, same_bytes}
-use Rattle.def_layout.specs.Pages.{Page, PageKind, free, leaf, index, storage_map, page_kind, page_kind_number, map_bits}
+use Rattle.def_layout.specs.Pages.{Page, page_kind, page_kind_number, map_bits}
+use Rattle.def_layout.specs.declared.page.PageKind.{PageKind}
+use Rattle.def_layout.specs.declared.page.PageKind.TheVariants.{Free, Leaf, Index, Map}
 
 -- Each field takes its number's last bits.
 unfoldable pub page_front : Page → List ℕ
@@ -28,26 +30,26 @@ unfoldable pub read_mark : List ℕ → ℕ → Bool
 read_mark b p = eqb (be32 b (16 + 4 * (p / 32)) / 2 ^ (31 - p % 32) % 2) 1
 
 unfoldable pub page_body : PageKind → Page → List ℕ
-page_body free x = entries_bytes x.entries
-page_body leaf x = entries_bytes x.entries
-page_body index x = entries_bytes x.entries
-page_body storage_map x = marks_bytes x.marks
+page_body Free x = entries_bytes x.entries
+page_body Leaf x = entries_bytes x.entries
+page_body Index x = entries_bytes x.entries
+page_body Map x = marks_bytes x.marks
 
 unfoldable pub page_bytes : Page → List ℕ
 page_bytes x = page_front x ++ page_body x.kind x
 
 -- The fields that 128 bytes show.
 unfoldable pub read_entries : PageKind → List ℕ → List Entry
-read_entries free b = tab (be32 b 0 / 4194304 % 16) (read_entry b 16)
-read_entries leaf b = tab (be32 b 0 / 4194304 % 16) (read_entry b 16)
-read_entries index b = tab (be32 b 0 / 4194304 % 16) (read_entry b 16)
-read_entries storage_map b = []
+read_entries Free b = tab (be32 b 0 / 4194304 % 16) (read_entry b 16)
+read_entries Leaf b = tab (be32 b 0 / 4194304 % 16) (read_entry b 16)
+read_entries Index b = tab (be32 b 0 / 4194304 % 16) (read_entry b 16)
+read_entries Map b = []
 
 unfoldable pub read_marks : PageKind → List ℕ → List Bool
-read_marks free b = []
-read_marks leaf b = []
-read_marks index b = []
-read_marks storage_map b = tab map_bits (read_mark b)
+read_marks Free b = []
+read_marks Leaf b = []
+read_marks Index b = []
+read_marks Map b = tab map_bits (read_mark b)
 
 unfoldable pub page_fields : List ℕ → Page
 page_fields b =

@@ -4,7 +4,9 @@ use Rattle.def_base.specs.Tests.{pick}
 use Rattle.def_layout.specs.declared.Entry.{Entry}
 use Rattle.def_layout.specs.Entries.{entry, top, insert_sorted, remove_key}
 use Rattle.def_layout.specs.Sizes.{room}
-use Rattle.def_layout.specs.Pages.{PageKind, free, leaf, index, storage_map, Page, node_at, freed}
+use Rattle.def_layout.specs.Pages.{Page, node_at, freed}
+use Rattle.def_layout.specs.declared.page.PageKind.{PageKind}
+use Rattle.def_layout.specs.declared.page.PageKind.TheVariants.{Free, Leaf, Index, Map}
 use Rattle.def_layout.specs.Records.{Rec, Kind, begin, insert, delete, undo_insert, undo_delete, commit, abort_mark, end, split, link, unlink, merge, redistribute, raise, lower}
 
 -- ---- entries
@@ -44,10 +46,10 @@ with_chain right high es x = record { kind = x.kind; level = x.level; right = ri
 
 -- A page has four bits for its level and room for 14 entries, and the map has none; no change that fits its page goes beyond.
 unfoldable pub entries_in : PageKind → List Entry → List Entry
-entries_in free es = take room es
-entries_in leaf es = take room es
-entries_in index es = take room es
-entries_in storage_map es = []
+entries_in Free es = take room es
+entries_in Leaf es = take room es
+entries_in Index es = take room es
+entries_in Map es = []
 
 unfoldable pub cut_to_size : Page → Page
 cut_to_size x = record { kind = x.kind; level = x.level % 16; right = x.right; high = x.high; lsn = x.lsn; own = x.own; entries = entries_in x.kind x.entries; marks = x.marks }

@@ -6,7 +6,8 @@ use Rattle.def_base.specs.Tests.{pick}
 use Rattle.def_layout.specs.declared.Entry.{Entry}
 use Rattle.def_layout.specs.Entries.{entry_at, look, same_entries, ten_bits}
 use Rattle.def_layout.specs.Sizes.{room}
-use Rattle.def_layout.specs.Pages.{Page, size, kind_is, kind_at, free, leaf, index}
+use Rattle.def_layout.specs.Pages.{Page, size, kind_is, kind_at}
+use Rattle.def_layout.specs.declared.page.PageKind.TheVariants.{Free, Leaf, Index}
 use Rattle.def_layout.specs.Records.{Rec, Kind, begin, insert, delete, undo_insert, undo_delete, commit, abort_mark, end, split, link, unlink, merge, redistribute, raise, lower}
 use Rattle.def_model.specs.Change
 use Rattle.def_model.specs.Change.{Role, role, as_a, as_b, as_c, as_map, kept, into_a, takes, page_marked}
@@ -50,10 +51,10 @@ side_by_side b u c w (e ∷ f ∷ es) =
     pick (ltb e.key u) (side_by_side b u c w (f ∷ es)) (eqb e.key u && (eqb e.val b && (eqb f.key w && eqb f.val c)))
 
 abbrev pub is_leaf : Page → Bool
-is_leaf x = kind_is x.kind leaf
+is_leaf x = kind_is x.kind Leaf
 
 abbrev pub is_index : Page → Bool
-is_index x = kind_is x.kind index
+is_index x = kind_is x.kind Index
 
 abbrev pub is_node : Page → Bool
 is_node x = is_leaf x || is_index x
@@ -112,7 +113,7 @@ fits_b undo_delete r x = true
 fits_b commit r x = true
 fits_b abort_mark r x = true
 fits_b end r x = true
-fits_b split r x = kind_is x.kind free
+fits_b split r x = kind_is x.kind Free
 fits_b link r x = true
 fits_b unlink r x = true
 fits_b merge r x = is_node x && (same_entries x.entries r.entries && eqb x.right r.right)
@@ -129,7 +130,7 @@ unfoldable pub fits_role : Rec → Role → Page → Bool
 fits_role r Change.none x = true
 fits_role r as_a x = fits_a r.kind r x
 fits_role r as_b x = fits_b r.kind r x
-fits_role r as_c x = kind_is x.kind free
+fits_role r as_c x = kind_is x.kind Free
 fits_role r as_map x = fits_map (takes r.kind) (page_marked r) x.marks
 
 -- Page p, judged by record r.

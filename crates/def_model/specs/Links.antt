@@ -1,7 +1,8 @@
 -- Left links (02, U5): each leaf's is the number of the leaf to its left.
 use Rattle.std.specs.Prelude.{ℕ, Bool, true, ◌&&◌, List, [], ◌∷◌, get_or, set, eqb}
 use Rattle.def_base.specs.Tests.{pick}
-use Rattle.def_layout.specs.Pages.{Page, leaf, kind_is}
+use Rattle.def_layout.specs.Pages.{Page, kind_is}
+use Rattle.def_layout.specs.declared.page.PageKind.TheVariants.{Leaf}
 use Rattle.def_model.specs.TreeRules.{Node, levels_of, bottom}
 
 abbrev pub left_at : List ℕ → ℕ → ℕ
@@ -24,7 +25,7 @@ relink before (n ∷ ns) lefts = relink n.page ns (set lefts n.page before)
 unfoldable pub of_leaves : List Page → List ℕ → List ℕ
 of_leaves [] ls = []
 of_leaves (x ∷ xs) [] = 0 ∷ of_leaves xs []
-of_leaves (x ∷ xs) (l ∷ ls) = pick (kind_is x.kind leaf) l 0 ∷ of_leaves xs ls
+of_leaves (x ∷ xs) (l ∷ ls) = pick (kind_is x.kind Leaf) l 0 ∷ of_leaves xs ls
 
 -- The links worked out: at the end of a call, and of a restart, "after redo". Those of leaves that the chain does not reach stay.
 unfoldable pub relinked : List Page → List ℕ → List ℕ

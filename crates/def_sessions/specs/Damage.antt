@@ -2,7 +2,9 @@
 use Rattle.std.specs.Prelude.{ℕ, Bool, true, false, List, [], ◌∷◌, ◌++◌, map, replicate}
 use Rattle.def_layout.specs.declared.Entry.{Entry}
 use Rattle.def_layout.specs.Entries.{entry, top}
-use Rattle.def_layout.specs.Pages.{PageKind, free, leaf, index, storage_map, Page, node_at, freed, map_page}
+use Rattle.def_layout.specs.Pages.{Page, node_at, freed, map_page}
+use Rattle.def_layout.specs.declared.page.PageKind.{PageKind}
+use Rattle.def_layout.specs.declared.page.PageKind.TheVariants.{Free, Leaf, Index, Map}
 use Rattle.def_layout.specs.PageBytes.{page, other, page_bytes, read_block, with_left}
 use Rattle.def_layout.specs.Records.{Rec, Kind, begin, insert, delete, undo_insert, undo_delete, commit, abort_mark, end, batch_row, data_row, split_row}
 use Rattle.def_layout.specs.RecordBytes.{full}
@@ -50,14 +52,14 @@ abbrev pub page_two : PageKind → ℕ → Step
 page_two kind level = stands 2 (record { kind = kind; level = level; right = 0; high = 0; lsn = 0; own = 2; entries = []; marks = [] })
 
 abbrev pub second_map : List Session
-second_map = beside (page_two storage_map 0 ∷ []) 3 (page_two free 0 ∷ []) 0 0
+second_map = beside (page_two Map 0 ∷ []) 3 (page_two Free 0 ∷ []) 0 0
 
 abbrev pub index_level : List Session
-index_level = beside (page_two index 0 ∷ []) 3 (page_two index 1 ∷ []) 0 0
+index_level = beside (page_two Index 0 ∷ []) 3 (page_two Index 1 ∷ []) 0 0
 
 -- A leaf's level is 0.
 abbrev pub leaf_level : List Session
-leaf_level = beside (page_two leaf 3 ∷ []) 3 (page_two leaf 0 ∷ []) 0 0
+leaf_level = beside (page_two Leaf 3 ∷ []) 3 (page_two Leaf 0 ∷ []) 0 0
 
 -- Only a page that was never used has own number 0: it has no log number.
 abbrev pub free_number : ℕ → List Step

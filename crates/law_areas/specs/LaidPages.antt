@@ -9,7 +9,9 @@ use Rattle.def_base.specs.Tests.{Case, yes!, no!, case, clash, and_true, true_eq
 use Rattle.def_layout.specs.declared.Entry.{Entry}
 use Rattle.def_layout.specs.Entries.{entry_at, no_entry}
 use Rattle.def_layout.specs.Numbers.{be32, put32, tab, chunks, read_entry, entry_bytes, entries_bytes, same_bytes}
-use Rattle.def_layout.specs.Pages.{Page, PageKind, free, leaf, index, storage_map, page_kind, map_bits, layout, layout_by, own_ok, bare}
+use Rattle.def_layout.specs.Pages.{Page, page_kind, map_bits, layout, layout_by, own_ok, bare}
+use Rattle.def_layout.specs.declared.page.PageKind.{PageKind}
+use Rattle.def_layout.specs.declared.page.PageKind.TheVariants.{Free, Leaf, Index, Map}
 use Rattle.def_layout.specs.PageBytes.{page, page_front, page_body, page_bytes, page_fields, marks_word, marks_bytes, read_entries, read_marks, read_mark, block_by, read_block}
 use Rattle.def_layout.specs.Sizes.{room}
 use Rattle.def_model.specs.Areas.{block_ok}
@@ -50,10 +52,10 @@ entries_are_bytes es =
 
 body_is_bytes : (k : PageKind) (x : Page) → Bytes (page_body k x)
 unfolding page_body marks_bytes
-body_is_bytes free x = entries_are_bytes x.entries
-body_is_bytes leaf x = entries_are_bytes x.entries
-body_is_bytes index x = entries_are_bytes x.entries
-body_is_bytes storage_map x = bytes_chunks 28 (λ j. put32 (marks_word x.marks j)) (λ j. bytes_put (marks_word x.marks j))
+body_is_bytes Free x = entries_are_bytes x.entries
+body_is_bytes Leaf x = entries_are_bytes x.entries
+body_is_bytes Index x = entries_are_bytes x.entries
+body_is_bytes Map x = bytes_chunks 28 (λ j. put32 (marks_word x.marks j)) (λ j. bytes_put (marks_word x.marks j))
 
 pub four_words : (a b c d : ℕ) → Bytes (put32 a ++ put32 b ++ put32 c ++ put32 d)
 four_words a b c d =
@@ -86,25 +88,25 @@ module _ (b : List ℕ) (w : Bytes b) where
   -- The kind's layout bounds the count.
   body_fits : (k : PageKind) (n p : ℕ) (x : Page) → x.entries ≡ read_entries k b → x.marks ≡ read_marks k b → layout_by k n p x ≡ true → BodyFits k x
   unfolding BodyFits layout_by read_entries read_marks
-  body_fits free n p x e m l =
+  body_fits Free n p x e m l =
       let f = and_true (ltb 0 p) _ l in
       let g = and_true (bare x) _ f.1 in
       let h = and_true (eqb x.level 0) _ g.0 in
       let i = and_true (eqb x.right 0) _ h.1 in
       let j = and_true (eqb x.high 0) _ i.1 in
       node_fits x (be32 b 0 / 4194304 % 16) e m (omega (arith, true_eq (length x.entries) 0 j.1))
-  body_fits leaf n p x e m l =
+  body_fits Leaf n p x e m l =
       let f = and_true (ltb 0 p) _ l in
       let g = and_true (own_ok p x) _ f.1 in
       let h = and_true (eqb x.level 0) _ g.1 in
       node_fits x (be32 b 0 / 4194304 % 16) e m (true_le (length x.entries) room h.1)
-  body_fits index n p x e m l =
+  body_fits Index n p x e m l =
       let f = and_true (ltb 0 p) _ l in
       let g = and_true (own_ok p x) _ f.1 in
       let h = and_true (ltb 0 x.level) _ g.1 in
       let i = and_true (leb (length x.entries) room) _ h.1 in
       node_fits x (be32 b 0 / 4194304 % 16) e m (true_le (length x.entries) room i.0)
-  body_fits storage_map n p x e m l = record { entries = e; marks = ap length m ∙ tab_length map_bits (read_mark b) }
+  body_fits Map n p x e m l = record { entries = e; marks = ap length m ∙ tab_length map_bits (read_mark b) }
 
   fields_fit : (n p : ℕ) → layout n p (page_fields b) ≡ true → Fits (page_fields b)
   unfolding layout page_fields

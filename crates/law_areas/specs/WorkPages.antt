@@ -5,7 +5,9 @@ use Rattle.std.proofs.Common.{ap, sym, ◌∙◌, subst, arith, lit<, lit≤, le
 use mathlib.Core.List.{List, [], ◌∷◌, ◌++◌, map}
 use Rattle.def_base.specs.Tests.{pick}
 use Rattle.def_layout.specs.Numbers.{be32, put32}
-use Rattle.def_layout.specs.Pages.{Page, PageKind, free, leaf, index, storage_map, kind_is, page_kind_number, at}
+use Rattle.def_layout.specs.Pages.{Page, kind_is, page_kind_number, at}
+use Rattle.def_layout.specs.declared.page.PageKind.{PageKind}
+use Rattle.def_layout.specs.declared.page.PageKind.TheVariants.{Free, Leaf, Index, Map}
 use Rattle.def_layout.specs.PageBytes.{page, page_bytes, page_fields, read_block, left_in, with_left}
 use Rattle.def_layout.specs.Sizes.{page_size}
 use Rattle.def_model.specs.OnBytes.{work_bytes}
@@ -190,12 +192,12 @@ bare_links (x ∷ xs) f = (record { narrow = lit< tt; other = λ e. refl }, f 0 
 
 -- ---- links of leaves alone
 
-pub leaf_kind : (k : PageKind) → kind_is k leaf ≡ leaf? k
+pub leaf_kind : (k : PageKind) → kind_is k Leaf ≡ leaf? k
 unfolding kind_is page_kind_number
-leaf_kind free = refl
-leaf_kind leaf = refl
-leaf_kind index = refl
-leaf_kind storage_map = refl
+leaf_kind Free = refl
+leaf_kind Leaf = refl
+leaf_kind Index = refl
+leaf_kind Map = refl
 
 -- The same pages and links, one for each page.
 pub paired_leaves : (xs : List Page) (ls : List ℕ) → AllLinks (paired xs ls) → paired xs (of_leaves xs ls) ≡ paired xs ls

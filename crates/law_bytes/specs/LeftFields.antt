@@ -6,7 +6,9 @@ use Rattle.std.proofs.Math.Dec.{eqb, eqb-suc-zero}
 use Rattle.def_base.specs.Tests.{pick}
 use Rattle.def_layout.specs.Entries.{entry}
 use Rattle.def_layout.specs.Numbers.{be32, put32, tab, read_entry}
-use Rattle.def_layout.specs.Pages.{Page, PageKind, free, leaf, index, storage_map, page_kind, map_bits}
+use Rattle.def_layout.specs.Pages.{Page, page_kind, map_bits}
+use Rattle.def_layout.specs.declared.page.PageKind.{PageKind}
+use Rattle.def_layout.specs.declared.page.PageKind.TheVariants.{Free, Leaf, Index, Map}
 use Rattle.def_layout.specs.PageBytes.{page_bytes, page_fields, read_entries, read_mark, read_marks, left_in, without_left, with_left}
 use Rattle.law_bytes.specs.Words.{be32_skip, be32_put, be32_drop, put32_length}
 use Rattle.law_bytes.specs.PageBytes.{Fits, page_fields_back}
@@ -52,17 +54,17 @@ module _ (b c : List ℕ) (h : Alike b c) where
 
   alike_entries : (k : PageKind) → read_entries k b ≡ read_entries k c
   unfolding read_entries
-  alike_entries free = λ i. tab (alike_count i) (λ j. alike_entry j i)
-  alike_entries leaf = λ i. tab (alike_count i) (λ j. alike_entry j i)
-  alike_entries index = λ i. tab (alike_count i) (λ j. alike_entry j i)
-  alike_entries storage_map = refl
+  alike_entries Free = λ i. tab (alike_count i) (λ j. alike_entry j i)
+  alike_entries Leaf = λ i. tab (alike_count i) (λ j. alike_entry j i)
+  alike_entries Index = λ i. tab (alike_count i) (λ j. alike_entry j i)
+  alike_entries Map = refl
 
   alike_marks : (k : PageKind) → read_marks k b ≡ read_marks k c
   unfolding read_marks
-  alike_marks free = refl
-  alike_marks leaf = refl
-  alike_marks index = refl
-  alike_marks storage_map = λ i. tab map_bits (λ p. alike_mark p i)
+  alike_marks Free = refl
+  alike_marks Leaf = refl
+  alike_marks Index = refl
+  alike_marks Map = λ i. tab map_bits (λ p. alike_mark p i)
 
   -- THE SAME FIELDS.
   pub alike_fields : page_fields b ≡ page_fields c

@@ -10,7 +10,9 @@ use Rattle.std.proofs.Math.Seq.{drop_at}
 use Rattle.std.proofs.Math.Dec.{eqb-suc-zero}
 use Rattle.def_base.specs.Tests.{pick, Case, yes!, no!, case, clash, eq_true, neq_false, and_true, and_both}
 use Rattle.def_layout.specs.Numbers.{be32, put32, same_bytes}
-use Rattle.def_layout.specs.Pages.{Page, PageKind, free, leaf, index, storage_map, page_kind_number}
+use Rattle.def_layout.specs.Pages.{Page, page_kind_number}
+use Rattle.def_layout.specs.declared.page.PageKind.{PageKind}
+use Rattle.def_layout.specs.declared.page.PageKind.TheVariants.{Free, Leaf, Index, Map}
 use Rattle.def_layout.specs.PageBytes.{page_front, page_bytes, left_by, left_in, without_left, with_left}
 use Rattle.law_bytes.specs.Same.{same_refl, same_true}
 use Rattle.law_bytes.specs.Words.{put32_length, put32_mod, be32_put, be32_take}
@@ -84,10 +86,10 @@ linked_word w l = w - w / 4 % 1024 * 4 + l * 4
 -- ---- a page's bytes
 
 abbrev pub leaf? : PageKind → Bool
-leaf? free = false
-leaf? leaf = true
-leaf? index = false
-leaf? storage_map = false
+leaf? Free = false
+leaf? Leaf = true
+leaf? Index = false
+leaf? Map = false
 
 -- A left link that its page may have.
 pub record Links (x : Page) (l : ℕ) : Type 0 where
@@ -96,17 +98,17 @@ pub record Links (x : Page) (l : ℕ) : Type 0 where
 
 kind_less : (k : PageKind) → leaf? k ≡ false → page_kind_number k ≢ 1
 unfolding page_kind_number
-kind_less free e q = absurd (omega arith)
-kind_less leaf e q = clash e
-kind_less index e q = absurd (omega arith)
-kind_less storage_map e q = absurd (omega arith)
+kind_less Free e q = absurd (omega arith)
+kind_less Leaf e q = clash e
+kind_less Index e q = absurd (omega arith)
+kind_less Map e q = absurd (omega arith)
 
 kind_one : (k : PageKind) → leaf? k ≡ true → page_kind_number k ≡ 1
 unfolding page_kind_number
-kind_one free e = clash (sym e)
-kind_one leaf e = refl
-kind_one index e = clash (sym e)
-kind_one storage_map e = clash (sym e)
+kind_one Free e = clash (sym e)
+kind_one Leaf e = refl
+kind_one Index e = clash (sym e)
+kind_one Map e = clash (sym e)
 
 -- The word leaves twelve bits.
 front_least : (x : Page) → front_word x + 4096 ≤ 2 ^ 32

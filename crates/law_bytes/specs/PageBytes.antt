@@ -3,7 +3,9 @@ use Rattle.std.specs.Prelude.{◌≡◌, refl, ℕ, ◌+◌, ◌-◌, ◌*◌, �
 use Rattle.std.proofs.Common.{ap, sym, ◌∙◌, mod-lt, mod-eq_of_lt, arith, lit<, length-append}
 use Rattle.def_layout.specs.Entries.{entry_at, no_entry}
 use Rattle.def_layout.specs.Numbers.{be32, put32, tab, read_entry, entries_bytes}
-use Rattle.def_layout.specs.Pages.{Page, PageKind, free, leaf, index, storage_map, page_kind, page_kind_number, map_bits}
+use Rattle.def_layout.specs.Pages.{Page, page_kind, page_kind_number, map_bits}
+use Rattle.def_layout.specs.declared.page.PageKind.{PageKind}
+use Rattle.def_layout.specs.declared.page.PageKind.TheVariants.{Free, Leaf, Index, Map}
 use Rattle.def_layout.specs.PageBytes.{page_front, page_body, page_bytes, page_fields, read_entries, read_marks, read_mark, marks_word, marks_bytes, page, block_by, read_block, block_bytes}
 use Rattle.law_bytes.specs.Words.{put32_length, be32_skip, be32_put}
 use Rattle.law_bytes.specs.Tables.{tab_is}
@@ -29,10 +31,10 @@ marks_bytes_length m = chunks_length 4 28 (λ j. put32 (marks_word m j)) (λ j. 
 
 page_body_length : (k : PageKind) (x : Page) → length (page_body k x) ≡ 112
 unfolding page_body
-page_body_length free x = entries_bytes_length x.entries
-page_body_length leaf x = entries_bytes_length x.entries
-page_body_length index x = entries_bytes_length x.entries
-page_body_length storage_map x = marks_bytes_length x.marks
+page_body_length Free x = entries_bytes_length x.entries
+page_body_length Leaf x = entries_bytes_length x.entries
+page_body_length Index x = entries_bytes_length x.entries
+page_body_length Map x = marks_bytes_length x.marks
 
 pub page_bytes_length : (x : Page) → length (page_bytes x) ≡ 128
 unfolding page_bytes
@@ -70,10 +72,10 @@ pub record MapFits (x : Page) : Type 0 where
   pub marks : length x.marks ≡ map_bits
 
 unfoldable pub BodyFits : PageKind → Page → Type 0
-BodyFits free x = NodeFits x
-BodyFits leaf x = NodeFits x
-BodyFits index x = NodeFits x
-BodyFits storage_map x = MapFits x
+BodyFits Free x = NodeFits x
+BodyFits Leaf x = NodeFits x
+BodyFits Index x = NodeFits x
+BodyFits Map x = MapFits x
 
 pub record Fits (x : Page) : Type 0 where
   pub level : x.level < 16
@@ -122,10 +124,10 @@ node_back x e w =
 
 body_back : (x : Page) (k : PageKind) → x.kind ≡ k → BodyFits k x → (read_entries k (page_bytes x) ≡ x.entries) × (read_marks k (page_bytes x) ≡ x.marks)
 unfolding BodyFits read_entries read_marks page_body
-body_back x free e w = (node_back x (page_bytes_by x free e) w, sym w.marks)
-body_back x leaf e w = (node_back x (page_bytes_by x leaf e) w, sym w.marks)
-body_back x index e w = (node_back x (page_bytes_by x index e) w, sym w.marks)
-body_back x storage_map e w = (sym w.entries, ap (λ (r : List ℕ). tab map_bits (read_mark r)) (page_bytes_by x storage_map e) ∙ marks_back x w)
+body_back x Free e w = (node_back x (page_bytes_by x Free e) w, sym w.marks)
+body_back x Leaf e w = (node_back x (page_bytes_by x Leaf e) w, sym w.marks)
+body_back x Index e w = (node_back x (page_bytes_by x Index e) w, sym w.marks)
+body_back x Map e w = (sym w.entries, ap (λ (r : List ℕ). tab map_bits (read_mark r)) (page_bytes_by x Map e) ∙ marks_back x w)
 
 -- READ BACK: the fields, and so the page.
 pub page_fields_back : (x : Page) → Fits x → page_fields (page_bytes x) ≡ x
@@ -171,10 +173,10 @@ block_bytes_back b = go (case (same_bytes (page_bytes (page_fields b)) b))
 -- A page that keeps its widths has at most 14 entries.
 body_count : (k : PageKind) (y : Page) → BodyFits k y → length y.entries ≤ 14
 unfolding BodyFits
-body_count free y b = b.count
-body_count leaf y b = b.count
-body_count index y b = b.count
-body_count storage_map y b = omega (arith, ap length b.entries)
+body_count Free y b = b.count
+body_count Leaf y b = b.count
+body_count Index y b = b.count
+body_count Map y b = omega (arith, ap length b.entries)
 
 pub fits_count : (y : Page) → Fits y → length y.entries ≤ 14
 fits_count y h = body_count y.kind y h.body

@@ -4,24 +4,48 @@ use Rattle.std.proofs.Math.Path.{refl, ap}
 use Rattle.std.proofs.Common.{sym, ◌∙◌, arith, lit<}
 use Prim.Native.Nat.{ℕ, zero, suc, ◌/◌, ◌%◌, ◌<◌, ◌≤◌}
 use Rattle.std.proofs.Math.Decide.{dec_lt}
+use denote.Enum.Bare.{sameb}
 use Rattle.def_base.specs.Tests.{neq_false}
 use Rattle.def_layout.specs.Numbers.{be32, tab, read_entry, entries_bytes}
-use Rattle.def_layout.specs.Pages.{Page, PageKind, free, leaf, index, storage_map, page_kind, page_kind_number, kind_is, map_bits}
+use Rattle.def_layout.specs.Pages.{Page, page_kind, page_kind_number, kind_is, map_bits}
+use Rattle.def_layout.specs.contracts.page.PageKind.{the_type}
+use Rattle.def_layout.specs.declared.page.PageKind.{PageKind}
+use Rattle.def_layout.specs.declared.page.PageKind.TheVariants.{Free, Leaf, Index, Map}
 use Rattle.def_layout.specs.PageBytes.{read_entries, read_marks, read_mark, page_body, marks_bytes}
 
 pub kind_back : (k : PageKind) → page_kind (page_kind_number k) ≡ k
 unfolding page_kind page_kind_number
-kind_back free = refl
-kind_back leaf = refl
-kind_back index = refl
-kind_back storage_map = refl
+kind_back Free = refl
+kind_back Leaf = refl
+kind_back Index = refl
+kind_back Map = refl
 
 pub kind_lt : (k : PageKind) → page_kind_number k < 4
 unfolding page_kind_number
-kind_lt free = lit< tt
-kind_lt leaf = lit< tt
-kind_lt index = lit< tt
-kind_lt storage_map = lit< tt
+kind_lt Free = lit< tt
+kind_lt Leaf = lit< tt
+kind_lt Index = lit< tt
+kind_lt Map = lit< tt
+
+-- The program compares two kinds.
+pub same_kind : (k l : PageKind) → sameb the_type k l ≡ kind_is k l
+unfolding kind_is page_kind_number
+same_kind Free Free = refl
+same_kind Free Leaf = refl
+same_kind Free Index = refl
+same_kind Free Map = refl
+same_kind Leaf Free = refl
+same_kind Leaf Leaf = refl
+same_kind Leaf Index = refl
+same_kind Leaf Map = refl
+same_kind Index Free = refl
+same_kind Index Leaf = refl
+same_kind Index Index = refl
+same_kind Index Map = refl
+same_kind Map Free = refl
+same_kind Map Leaf = refl
+same_kind Map Index = refl
+same_kind Map Map = refl
 
 pub number_node : (q : ℕ) → q < 3 → page_kind_number (page_kind q) ≡ q
 unfolding page_kind page_kind_number
@@ -30,7 +54,7 @@ number_node (suc zero) h = refl
 number_node (suc (suc zero)) h = refl
 number_node (suc (suc (suc q))) h = absurd (omega arith)
 
-pub kind_map : (q : ℕ) → 3 ≤ q → page_kind q ≡ storage_map
+pub kind_map : (q : ℕ) → 3 ≤ q → page_kind q ≡ Map
 unfolding page_kind
 kind_map zero h = absurd (omega arith)
 kind_map (suc zero) h = absurd (omega arith)

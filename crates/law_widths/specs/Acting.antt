@@ -7,7 +7,9 @@ use Rattle.def_base.specs.Tests.{pick, Case, yes!, no!, case, clash}
 use Rattle.def_layout.specs.declared.Entry.{Entry}
 use Rattle.def_layout.specs.Entries.{top, entry_at}
 use Rattle.def_layout.specs.Sizes.{room}
-use Rattle.def_layout.specs.Pages.{PageKind, free, leaf, index, storage_map, Page, node_at, freed, map_bits}
+use Rattle.def_layout.specs.Pages.{Page, node_at, freed, map_bits}
+use Rattle.def_layout.specs.declared.page.PageKind.{PageKind}
+use Rattle.def_layout.specs.declared.page.PageKind.TheVariants.{Free, Leaf, Index, Map}
 use Rattle.def_layout.specs.Records.{Rec, Kind, begin, insert, delete, undo_insert, undo_delete, commit, abort_mark, end, split, link, unlink, merge, redistribute, raise, lower}
 use Rattle.def_model.specs.Change.{with_lsn, entries_in, cut_to_size, Role, as_a, as_b, as_c, as_map, shape, role, into_a, change_a, change_b, change_c, page_marked, takes, change, act}
 use Rattle.def_model.specs.Change
@@ -101,10 +103,10 @@ as_c_raise lower r e l = clash (sym e)
 
 -- The map has a mark for every page, and no other page has marks.
 abbrev MarksFit : PageKind → List Bool → Type 0
-MarksFit free m = m ≡ []
-MarksFit leaf m = m ≡ []
-MarksFit index m = m ≡ []
-MarksFit storage_map m = length m ≡ map_bits
+MarksFit Free m = m ≡ []
+MarksFit Leaf m = m ≡ []
+MarksFit Index m = m ≡ []
+MarksFit Map m = length m ≡ map_bits
 
 record Loose (x : Page) : Type 0 where
   right : x.right < 1024
@@ -118,10 +120,10 @@ unfolding BodyFits Each
 fits_loose x h = let (e, m) = of_body x.kind h.body in record { right = h.right; high = h.high; own = h.own; entries = e; marks = m }
   where
     of_body : (k : PageKind) → BodyFits k x → Fine x.entries × MarksFit k x.marks
-    of_body free b = (at_fine x.entries b.entry, b.marks)
-    of_body leaf b = (at_fine x.entries b.entry, b.marks)
-    of_body index b = (at_fine x.entries b.entry, b.marks)
-    of_body storage_map b = (subst Fine (sym b.entries) tt, b.marks)
+    of_body Free b = (at_fine x.entries b.entry, b.marks)
+    of_body Leaf b = (at_fine x.entries b.entry, b.marks)
+    of_body Index b = (at_fine x.entries b.entry, b.marks)
+    of_body Map b = (subst Fine (sym b.entries) tt, b.marks)
 
 pub fits_fine : (x : Page) → Fits x → Fine x.entries
 fits_fine x h = (fits_loose x h).entries
@@ -150,10 +152,10 @@ loose_fits m x l h =
         }
 
     cut_body : (k : PageKind) → x.kind ≡ k → MarksFit k x.marks → BodyFits k (with_lsn m (cut_to_size x))
-    cut_body free e k = node_body (with_lsn m (cut_to_size x)) (ap (λ z. entries_in z x.entries) e) k
-    cut_body leaf e k = node_body (with_lsn m (cut_to_size x)) (ap (λ z. entries_in z x.entries) e) k
-    cut_body index e k = node_body (with_lsn m (cut_to_size x)) (ap (λ z. entries_in z x.entries) e) k
-    cut_body storage_map e k = record { entries = ap (λ z. entries_in z x.entries) e; marks = k }
+    cut_body Free e k = node_body (with_lsn m (cut_to_size x)) (ap (λ z. entries_in z x.entries) e) k
+    cut_body Leaf e k = node_body (with_lsn m (cut_to_size x)) (ap (λ z. entries_in z x.entries) e) k
+    cut_body Index e k = node_body (with_lsn m (cut_to_size x)) (ap (λ z. entries_in z x.entries) e) k
+    cut_body Map e k = record { entries = ap (λ z. entries_in z x.entries) e; marks = k }
 
 -- ---- the changes
 
@@ -167,7 +169,7 @@ loose_chain right high es x a b k h = record { right = a; high = b; own = h.own;
 loose_node : (own level right high : ℕ) (es : List Entry) → own < 1024 → right < 1024 → high < 2 ^ 32 → Fine es → Loose (node_at own level right high es)
 loose_node own level right high es o a b k = record { right = a; high = b; own = o; entries = k; marks = by_test (eqb level 0) }
   where
-    by_test : (b : Bool) → MarksFit (pick b leaf index) []
+    by_test : (b : Bool) → MarksFit (pick b Leaf Index) []
     by_test true = refl
     by_test false = refl
 
@@ -177,10 +179,10 @@ loose_freed own o = record { right = lit< tt; high = lit< tt; own = o; entries =
 
 -- A mark is set, or cleared.
 marks_set : (k : PageKind) (m : List Bool) (p : ℕ) (t : Bool) → MarksFit k m → MarksFit k (set m p t)
-marks_set free m p t h = ap (λ z. set z p t) h
-marks_set leaf m p t h = ap (λ z. set z p t) h
-marks_set index m p t h = ap (λ z. set z p t) h
-marks_set storage_map m p t h = length-set m p t ∙ h
+marks_set Free m p t h = ap (λ z. set z p t) h
+marks_set Leaf m p t h = ap (λ z. set z p t) h
+marks_set Index m p t h = ap (λ z. set z p t) h
+marks_set Map m p t h = length-set m p t ∙ h
 
 -- Without part C there is no such role.
 never : (a b c m : Bool) → c ≡ false → pick a as_a (pick b as_b (pick c as_c (pick m as_map Change.none))) ≡ as_c → ⊥

@@ -1,11 +1,11 @@
 -- A record's family of kinds, as the program goes by it: begin; insert and delete; commit; abort mark; end; and those that no batch has.
-use Rattle.std.specs.Prelude.{ℕ, zero, suc, ◌+◌, ◌≤◌, ◌<◌, ◌≡◌, Bool, true, ◌&&◌, eqb, leb}
+use Rattle.std.specs.Prelude.{ℕ, zero, suc, ◌+◌, ◌≤◌, ◌<◌, ◌≡◌, true, ◌&&◌, eqb, leb, Some, None}
 use Rattle.std.proofs.Math.Path.{refl, sym, ap, ap₂}
 use Rattle.std.proofs.Common.{◌∙◌, subst, arith}
 use Rattle.std.proofs.Math.Bool.{false}
 use mathlib.Core.List.{List, [], ◌∷◌, ◌++◌, map}
 use Rattle.std.proofs.Math.ListN.{length, set, length-append, length-map}
-use Rattle.def_base.specs.Tests.{clash, le_true, le_false}
+use Rattle.def_base.specs.Tests.{le_true, le_false}
 use Rattle.def_layout.specs.declared.Row.{Row}
 use Rattle.def_layout.specs.Desks.{row_at, eight_rows, most_open}
 use Rattle.def_layout.specs.Records.{Rec, Kind, kind_of, begin}
@@ -14,23 +14,20 @@ use Rattle.law_bytes.specs.Pieces.{All}
 use Rattle.law_bytes.specs.Ranges.{Run, in_run}
 use Rattle.law_bytes.specs.Eights.{eight, eight_same}
 use Rattle.law_bytes.specs.DeskRows.{place_of, used_count, eight_rows_add, new_row}
-use Rattle.log_chain.specs.declared.Judged.{Judged}
+use Rattle.log_chain.specs.declared.Batches.{Batches}
 use Rattle.log_chain.specs.declared.Told.{Told}
 use Rattle.log_pending.specs.Holding.{Sits, Holds}
-use Rattle.log_chain.specs.Shown.{right_with, Shows, Found, marks_of, map_append}
-use Rattle.log_chain.specs.Steps.{Tells, Stepped, Steps, Onward, onward, halted, GoesOn, goes, row_there, shows_row}
+use Rattle.log_chain.specs.Shown.{batches_of, right_with, Shows, Found, marks_of, map_append}
+use Rattle.log_chain.specs.Steps.{Tells, Stepped, Steps, GoesOn, goes, row_there, shows_row}
 
--- A step from its parts: the chain's own test, and eight batches at most.
-pub stepped_ok : (n : ℕ) (x : Rec) (bs : List Batch) (r : Judged) (k : Kind) → x.kind ≡ k → chains k x (find_batch x.batch bs) ≡ true → length (tell k n x bs) ≤ 8
-    → r.ok ≡ true → Shows (tell k n x bs) r.rows r.marked → Stepped (chain_step n x bs) (tell x.kind n x bs) r
+-- A step from its parts: the chain's own test, and eight batches at most. A refusal is the chain's test that fails.
+pub stepped_ok : (n : ℕ) (x : Rec) (bs : List Batch) (o : Batches) (k : Kind) → x.kind ≡ k → chains k x (find_batch x.batch bs) ≡ true → length (tell k n x bs) ≤ 8
+    → Shows (tell k n x bs) o → Stepped (chain_step n x bs) (tell x.kind n x bs) (Some o)
 unfolding chain_step
-stepped_ok n x bs r k e c l o s =
+stepped_ok n x bs o k e c l s =
     let a : chains x.kind x (find_batch x.batch bs) ≡ true = ap (λ (y : Kind). chains y x (find_batch x.batch bs)) e ∙ c in
     let b : leb (length (tell x.kind n x bs)) most_open ≡ true = ap (λ (y : Kind). leb (length (tell y n x bs)) most_open) e ∙ le_true (length (tell k n x bs)) 8 l in
-    record { ok = o ∙ sym (rw (a, b)); shows = λ _. subst (λ (y : Kind). Shows (tell y n x bs) r.rows r.marked) (sym e) s }
-
-pub stepped_off : (n : ℕ) (x : Rec) (bs cs : List Batch) (r : Judged) → chain_step n x bs ≡ false → r.ok ≡ false → Stepped (chain_step n x bs) cs r
-stepped_off n x bs cs r c o = record { ok = o ∙ sym c; shows = λ e. clash (sym e ∙ c) }
+    (rw (a, b), subst (λ (y : Kind). Shows (tell y n x bs) o) (sym e) s)
 
 pub unchained : (n : ℕ) (x : Rec) (bs : List Batch) (k : Kind) → x.kind ≡ k → chains k x (find_batch x.batch bs) ≡ false → chain_step n x bs ≡ false
 unfolding chain_step
@@ -73,26 +70,25 @@ nine m x bs b l =
     (omega (arith, l, length-append bs (record { number = m; last = m; marked = false; lines = [] } ∷ []))) in
     ap (λ (y : Kind). chains y x (find_batch x.batch bs) && leb (length (tell y m x bs)) 8) b ∙ c
 
-module _ (rs : List Row) (ms : List Bool) (t : Told) (k : t.kind ≡ 1) (u : ℕ) (e : u ≡ place_of 0 rs) where
+module _ (o : Batches) (t : Told) (k : t.kind ≡ 1) (u : ℕ) (e : u ≡ place_of 0 o.rows) where
   begins : (x : Rec) → Tells t x → x.kind ≡ begin
   unfolding kind_of
   begins x w = sym w.kind ∙ ap kind_of k
 
-  pub begun_full : (r : Judged) → u ≡ 8 → r.ok ≡ false → Steps rs ms t r
-  begun_full r z o log bs x h s w n =
-      stepped_off t.own x bs (tell x.kind t.own x bs) r (nine t.own x bs (begins x w) (omega (arith, rows_used rs log bs h s.rows, e, z))) o
+  pub begun_full : u ≡ 8 → Steps o t None
+  begun_full z log bs x h s w n = nine t.own x bs (begins x w) (omega (arith, rows_used o.rows log bs h s.rows, e, z))
 
-  pub begun_row : (y : Row) → y ≡ new_row t.own → u ≤ 8 → (u ≡ 8 → ⊥) → Steps rs ms t (right_with (set rs u y) ms)
+  pub begun_row : (y : Row) → y ≡ new_row t.own → u ≤ 8 → (u ≡ 8 → ⊥) → Steps o t (right_with (set o.rows u y) o.marked)
   unfolding tell chains
   begun_row y v q z log bs x h s w n =
-      let c : u ≡ length bs = e ∙ rows_used rs log bs h s.rows in
+      let c : u ≡ length bs = e ∙ rows_used o.rows log bs h s.rows in
       let l : length bs < 8 = omega (arith, c, q, z) in
       let b : Batch = record { number = t.own; last = t.own; marked = false; lines = [] } in
-      stepped_ok t.own x bs (right_with (set rs u y) ms) begin (begins x w) refl
-      (omega (arith, l, length-append bs (b ∷ []))) refl
+      stepped_ok t.own x bs (batches_of (set o.rows u y) o.marked) begin (begins x w) refl
+      (omega (arith, l, length-append bs (b ∷ [])))
       (record {
         rows =
-            ap (set rs u) v ∙ ap₂ (λ (z : List Row) (m : ℕ). set z m (new_row t.own)) s.rows (c ∙ sym (length-map bs row_of))
+            ap (set o.rows u) v ∙ ap₂ (λ (z : List Row) (m : ℕ). set z m (new_row t.own)) s.rows (c ∙ sym (length-map bs row_of))
             ∙ sym (ap eight_rows (map_append row_of bs (b ∷ []) ∙ ap (λ (y : Row). map row_of bs ++ y ∷ []) (fresh_row t.own))
             ∙ eight_rows_add (map row_of bs) (new_row t.own) (omega (arith, l, length-map bs row_of)));
         marks = s.marks ∙ sym (ap (eight false) (map_append (λ c. c.marked) bs (b ∷ [])) ∙ eight_same false (marks_of bs));
@@ -112,27 +108,18 @@ pub ends_ask : (k : ℕ) → 6 ≤ k → k ≤ 7 → Asks k
 unfolding Run chains kind_of
 ends_ask k a b = in_run Asks 2 6 k ((λ x bs. refl), ((λ x bs. refl), tt)) a (omega arith)
 
-module _ (rs : List Row) (ms : List Bool) (t : Told) (p : ℕ) (a : Asks t.kind) (g : GoesOn rs ms t p) where
-  pub halts : (r : Judged) → p ≡ 8 → r.ok ≡ false → Steps rs ms t r
-  halts r z o log bs x h s w n = go (g log bs x h s w)
-    where
-      go : Onward x bs p → Stepped (chain_step t.own x bs) (tell x.kind t.own x bs) r
-      go (onward l f e) = absurd (omega arith)
-      go (halted q e) =
-          stepped_off t.own x bs (tell x.kind t.own x bs) r
-          (unchained t.own x bs (kind_of t.kind) (sym w.kind) (a x bs ∙ e)) o
+module _ (o : Batches) (t : Told) (a : Asks t.kind) where
+  pub halts : GoesOn o t None → Steps o t None
+  halts g log bs x h s w n = unchained t.own x bs (kind_of t.kind) (sym w.kind) (a x bs ∙ g log bs x h s w)
 
   -- A batch that goes on: changed as the record's kind says, or gone.
-  module _ (z : p ≡ 8 → ⊥) (r : Judged) (o : r.ok ≡ true) where
-    pub goes_through : ((log : List Rec) (bs : List Batch) (x : Rec) → Holds log bs → Shows bs rs ms → Tells t x → p < 8 → Found x.batch bs p
-        → (length (tell (kind_of t.kind) t.own x bs) ≤ 8) × Shows (tell (kind_of t.kind) t.own x bs) r.rows r.marked) → Steps rs ms t r
-    goes_through v log bs x h s w n = go (g log bs x h s w)
-      where
-        go : Onward x bs p → Stepped (chain_step t.own x bs) (tell x.kind t.own x bs) r
-        go (halted q e) = absurd (z q)
-        go (onward l f e) =
-            let q = v log bs x h s w l f in
-            stepped_ok t.own x bs r (kind_of t.kind) (sym w.kind) (a x bs ∙ e) q.0 o q.1
+  pub goes_through : (p : ℕ) → GoesOn o t (Some p) → (r : Batches)
+      → ((log : List Rec) (bs : List Batch) (x : Rec) → Holds log bs → Shows bs o → Tells t x → p < 8 → Found x.batch bs p
+      → (length (tell (kind_of t.kind) t.own x bs) ≤ 8) × Shows (tell (kind_of t.kind) t.own x bs) r) → Steps o t (Some r)
+  goes_through p g r v log bs x h s w n =
+      let f = g log bs x h s w in
+      let q = v log bs x h s w f.0 f.1 in
+      stepped_ok t.own x bs r (kind_of t.kind) (sym w.kind) (a x bs ∙ f.2) q.0 q.1
 
 -- What an update's record does to its batch, by the kind's number.
 update : ℕ → ℕ → Rec → Batch → Batch
@@ -158,15 +145,15 @@ update_mark : (k n : ℕ) (x : Rec) (b : Batch) → (update k n x b).marked ≡ 
 unfolding update written
 update_mark k n x b = refl
 
-module _ (rs : List Row) (ms : List Bool) (t : Told) (p : ℕ) (g : GoesOn rs ms t p) (z : p ≡ 8 → ⊥) where
-  pub updates : 2 ≤ t.kind → t.kind ≤ 3 → (y : Row) → y ≡ longer_row (row_at rs p) t.own → Steps rs ms t (right_with (set rs p y) ms)
+module _ (o : Batches) (t : Told) (p : ℕ) (g : GoesOn o t (Some p)) where
+  pub updates : 2 ≤ t.kind → t.kind ≤ 3 → (y : Row) → y ≡ longer_row (row_at o.rows p) t.own → Steps o t (right_with (set o.rows p y) o.marked)
   updates a b y v =
-      goes_through rs ms t p (updates_ask t.kind a b) g z (right_with (set rs p y) ms) refl
+      goes_through o t (updates_ask t.kind a b) p g (batches_of (set o.rows p y) o.marked)
       (λ log bs x h s w l f.
       let e : tell (kind_of t.kind) t.own x bs ≡ change_batch x.batch (update t.kind t.own x) bs = tells_update t.kind t.own x bs a b in
       let u : y ≡ row_of (update t.kind t.own x f.batch) =
-      v ∙ ap (λ (c : Row). longer_row c t.own) (row_there rs ms x.batch p bs s f l h.few) ∙ update_row t.kind t.own x f.batch in
+      v ∙ ap (λ (c : Row). longer_row c t.own) (row_there o x.batch p bs s f l h.few) ∙ update_row t.kind t.own x f.batch in
       rw e (
         change_few x.batch bs p f h.few (update t.kind t.own x),
-        shows_row rs ms x.batch p bs s f l h.few (update t.kind t.own x) y u (update_mark t.kind t.own x f.batch),
+        shows_row o x.batch p bs s f l h.few (update t.kind t.own x) y u (update_mark t.kind t.own x f.batch),
       ))

@@ -1,5 +1,5 @@
 -- The program's eight rows and marks show the open batches of a log: where a batch is found, and what changing or dropping it does to them.
-use Rattle.std.specs.Prelude.{ℕ, zero, suc, ◌+◌, ◌-◌, ◌≤◌, ◌<◌, ◌≡◌, refl, Bool, true, false, List, [], ◌∷◌, ◌++◌, map, length, get_or, set, replicate, eqb}
+use Rattle.std.specs.Prelude.{ℕ, zero, suc, ◌+◌, ◌-◌, ◌≤◌, ◌<◌, ◌≡◌, refl, Bool, true, false, List, [], ◌∷◌, ◌++◌, map, length, get_or, set, replicate, eqb, Option, Some}
 use Rattle.std.proofs.Common.{sym, ap, ap₂, ◌∙◌, arith}
 use Rattle.std.proofs.Math.Option.{none, some}
 use Rattle.std.proofs.lemmas.List.{length-map}
@@ -13,18 +13,22 @@ use Rattle.def_model.specs.Batches.{Batch, find_batch, change_batch, drop_batch,
 use Rattle.law_bytes.specs.Tables.{getD_tab}
 use Rattle.law_bytes.specs.Eights.{eight, closing, padded, eight_set, eight_closed}
 use Rattle.law_bytes.specs.DeskRows.{place_of}
-use Rattle.log_chain.specs.declared.Judged.{Judged}
+use Rattle.log_chain.specs.declared.Batches.{Batches}
 
 abbrev pub marks_of : List Batch → List Bool
 marks_of bs = map (λ b. b.marked) bs
 
--- Nothing wrong, and these rows and marks.
-abbrev pub right_with : List Row → List Bool → Judged
-right_with rs ms = record { ok = true; rows = rs; marked = ms }
+-- The program's batches of these rows and marks.
+abbrev pub batches_of : List Row → List Bool → Batches
+batches_of rs ms = record { rows = rs; marked = ms }
 
-pub record Shows (bs : List Batch) (rs : List Row) (ms : List Bool) : Type 0 where
-  pub rows : rs ≡ eight_rows (map row_of bs)
-  pub marks : ms ≡ eight false (marks_of bs)
+-- Nothing wrong, and these rows and marks.
+abbrev pub right_with : List Row → List Bool → Option Batches
+right_with rs ms = Some (batches_of rs ms)
+
+pub record Shows (bs : List Batch) (o : Batches) : Type 0 where
+  pub rows : o.rows ≡ eight_rows (map row_of bs)
+  pub marks : o.marked ≡ eight false (marks_of bs)
 
 -- ---- a batch's place among those open
 
@@ -143,6 +147,6 @@ module _ {A : Type 0} (d : A) (g : Batch → A) (n : ℕ) (bs : List Batch) (p :
       ∙ ap₂ (λ (x : List A) (k : ℕ). tab 8 (closing d (eight d x) k)) (sym shape) place
 
 -- No batch is open.
-pub shows_none : (rs : List Row) → rs ≡ replicate 8 no_row → Shows [] rs (replicate 8 false)
+pub shows_none : (rs : List Row) → rs ≡ replicate 8 no_row → Shows [] (batches_of rs (replicate 8 false))
 unfolding eight_rows tab
 shows_none rs e = record { rows = e; marks = refl }

@@ -1,5 +1,5 @@
 -- An undo: its batch's newest line is read from the log, and what is left pending is the line below.
-use Rattle.std.specs.Prelude.{ℕ, suc, ◌-◌, ◌≤◌, ◌<◌, ◌≡◌, Bool, true, not, ◌&&◌, set, eqb}
+use Rattle.std.specs.Prelude.{ℕ, suc, ◌-◌, ◌≤◌, ◌≡◌, Bool, true, not, ◌&&◌, set, eqb, Option, Some, None}
 use Rattle.std.proofs.Math.Path.{refl, sym, ap, ap₂}
 use Rattle.std.proofs.Common.{◌∙◌, subst, arith}
 use Rattle.std.proofs.Math.Option.{some}
@@ -13,7 +13,7 @@ use Rattle.def_layout.specs.Records.{Rec, kind_of}
 use Rattle.def_model.specs.Batches as model
 use Rattle.def_model.specs.Batches.{Batch, find_batch, change_batch, rest_of, next_undo, row_of, undone, tell, newest_is, undoes_line, undoes, chains, chain_step}
 use Rattle.law_bytes.specs.Ranges.{Run, in_run}
-use Rattle.log_chain.specs.declared.Judged.{Judged}
+use Rattle.log_chain.specs.declared.Batches.{Batches}
 use Rattle.log_chain.specs.declared.Told.{Told}
 use Rattle.log_pending.specs.declared.Line.{Line}
 use Rattle.log_pending.specs.Below.{Linked}
@@ -21,13 +21,13 @@ use Rattle.log_pending.specs.Batches.{all_found}
 use Rattle.log_pending.specs.Holding.{Sits, Holds}
 use Rattle.log_pending.specs.Reading.{Reads}
 use Rattle.log_pending.specs.Lines.{shown_line, TellsLine}
-use Rattle.log_chain.specs.Shown.{right_with, Shows, Found, Placed, found, absent}
+use Rattle.log_chain.specs.Shown.{batches_of, right_with, Shows, Found}
 use Rattle.log_chain.specs.Steps.{Tells, Stepped, Places, row_there, shows_row, found_as, none_as}
-use Rattle.log_chain.specs.Families.{stepped_ok, stepped_off, unchained, change_few}
+use Rattle.log_chain.specs.Families.{stepped_ok, unchained, change_few}
 
 -- As `Steps`, of a log that the area shows.
-abbrev pub StepsIn : ℕ → List ℕ → List Row → List Bool → Told → Judged → Type 0
-StepsIn m b rs ms t r = (log : List Rec) (bs : List Batch) (x : Rec) → Reads m b log → Holds log bs → Shows bs rs ms → Tells t x → t.own ≡ suc (length log)
+abbrev pub StepsIn : ℕ → List ℕ → Batches → Told → Option Batches → Type 0
+StepsIn m b o t r = (log : List Rec) (bs : List Batch) (x : Rec) → Reads m b log → Holds log bs → Shows bs o → Tells t x → t.own ≡ suc (length log)
     → Stepped (chain_step t.own x bs) (tell x.kind t.own x bs) r
 
 -- The line is what the record undoes, and what is below it is what the record says is left.
@@ -101,7 +101,7 @@ pending_case : (ls : List model.Line) → Pends ls
 pending_case [] = nothing refl
 pending_case (l ∷ ls) = pends l ls refl
 
-module _ (m : ℕ) (b : List ℕ) (rs : List Row) (ms : List Bool) (t : Told) (k : 4 ≤ t.kind) (q : t.kind ≤ 5) (p : ℕ) (g : Places rs t.batch p) where
+module _ (m : ℕ) (b : List ℕ) (o : Batches) (t : Told) (k : 4 ≤ t.kind) (q : t.kind ≤ 5) where
   asks : (x : Rec) (bs : List Batch) → chains (kind_of t.kind) x (find_batch x.batch bs) ≡ undoes (eqb t.kind 4) x (find_batch x.batch bs)
   unfolding Run chains kind_of
   asks x bs =
@@ -112,82 +112,78 @@ module _ (m : ℕ) (b : List ℕ) (rs : List Row) (ms : List Bool) (t : Told) (k
   tells_undone n x bs =
       in_run (λ (y : ℕ). tell (kind_of y) n x bs ≡ change_batch x.batch (undone n) bs) 2 4 t.kind (refl, (refl, tt)) k (omega arith)
 
-  undo_off : (r : Judged) → r.ok ≡ false
-      → ((log : List Rec) (bs : List Batch) (x : Rec) → Reads m b log → Holds log bs → Shows bs rs ms → Tells t x → p < 8 → (f : Found x.batch bs p)
-      → undoes (eqb t.kind 4) x (some f.batch) ≡ false) → StepsIn m b rs ms t r
+  undo_off : (x : Rec) (bs : List Batch) → Tells t x → undoes (eqb t.kind 4) x (find_batch x.batch bs) ≡ false → chain_step t.own x bs ≡ false
+  undo_off x bs w z = unchained t.own x bs (kind_of t.kind) (sym w.kind) (asks x bs ∙ z)
+
+  pub undo_nowhere : Places o.rows t.batch None → StepsIn m b o t None
   unfolding undoes
-  undo_off r o v log bs x e h s w n = go (g log bs h s.rows)
-    where
-      off : undoes (eqb t.kind 4) x (find_batch x.batch bs) ≡ false → Stepped (chain_step t.own x bs) (tell x.kind t.own x bs) r
-      off z = stepped_off t.own x bs (tell x.kind t.own x bs) r (unchained t.own x bs (kind_of t.kind) (sym w.kind) (asks x bs ∙ z)) o
+  undo_nowhere g log bs x e h s w n = undo_off x bs w (ap (undoes (eqb t.kind 4) x) (none_as w bs (g log bs h s.rows)))
 
-      go : Placed t.batch bs p 8 → Stepped (chain_step t.own x bs) (tell x.kind t.own x bs) r
-      go (absent y z) = off (ap (undoes (eqb t.kind 4) x) (none_as w bs z))
-      go (found l y) =
-          let f : Found x.batch bs p = found_as w bs y in
-          off (ap (undoes (eqb t.kind 4) x) f.is ∙ v log bs x e h s w l f)
+  module _ (p : ℕ) (g : Places o.rows t.batch (Some p)) where
+    -- The record's batch, in its place.
+    there : (log : List Rec) (bs : List Batch) (x : Rec) → Holds log bs → Shows bs o → Tells t x → Found x.batch bs p
+    there log bs x h s w = found_as w bs (g log bs h s.rows).1
 
-  pub undo_nowhere : (r : Judged) → p ≡ 8 → r.ok ≡ false → StepsIn m b rs ms t r
-  undo_nowhere r z o = undo_off r o (λ log bs x e h s w l f. absurd (omega arith))
+    undo_not : (log : List Rec) (bs : List Batch) (x : Rec) (h : Holds log bs) (s : Shows bs o) (w : Tells t x)
+        → undoes (eqb t.kind 4) x (some (there log bs x h s w).batch) ≡ false → chain_step t.own x bs ≡ false
+    undo_not log bs x h s w z = undo_off x bs w (ap (undoes (eqb t.kind 4) x) (there log bs x h s w).is ∙ z)
 
-  pub undo_nothing : (r : Judged) → (row_at rs p).pending ≡ 0 → r.ok ≡ false → StepsIn m b rs ms t r
-  unfolding row_of
-  undo_nothing r z o =
-      undo_off r o
-      (λ log bs x e h s w l f.
-      let c : length f.batch.lines ≡ 0 = sym (ap (λ (y : Row). y.pending) (row_there rs ms x.batch p bs s f l h.few)) ∙ z in
-      undoes_nothing (eqb t.kind 4) x f.batch (none_there f.batch.lines c))
-    where
-      none_there : (ls : List model.Line) → length ls ≡ 0 → ls ≡ []
-      none_there [] c = refl
-      none_there (l ∷ ls) c = absurd (omega arith)
+    row_is : (log : List Rec) (bs : List Batch) (x : Rec) (h : Holds log bs) (s : Shows bs o) (w : Tells t x) → row_at o.rows p ≡ row_of (there log bs x h s w).batch
+    row_is log bs x h s w = row_there o x.batch p bs s (there log bs x h s w) (g log bs h s.rows).0 h.few
 
-  -- The newest line as it was read.
-  module _ (z : (row_at rs p).pending ≡ 0 → ⊥) (line : Line) (u : TellsLine m b (row_at rs p).undo line) where
-    record Newest (bs : List Batch) (x : Rec) (f : Found x.batch bs p) : Type 0 where
-      pub top : model.Line
-      pub rest : List model.Line
-      pub lines : f.batch.lines ≡ top ∷ rest
-      pub shown : line ≡ shown_line top rest
-
-    newest_read : (log : List Rec) (bs : List Batch) (x : Rec) → Reads m b log → Holds log bs → Shows bs rs ms → p < 8 → (f : Found x.batch bs p) → Newest bs x f
-    unfolding row_of next_undo
-    newest_read log bs x e h s l f = go (pending_case f.batch.lines)
+    pub undo_nothing : (row_at o.rows p).pending ≡ 0 → StepsIn m b o t None
+    unfolding row_of
+    undo_nothing z log bs x e h s w n =
+        let f = there log bs x h s w in
+        let c : length f.batch.lines ≡ 0 = sym (ap (λ (y : Row). y.pending) (row_is log bs x h s w)) ∙ z in
+        undo_not log bs x h s w (undoes_nothing (eqb t.kind 4) x f.batch (none_there f.batch.lines c))
       where
-        there : row_at rs p ≡ row_of f.batch
-        there = row_there rs ms x.batch p bs s f l h.few
+        none_there : (ls : List model.Line) → length ls ≡ 0 → ls ≡ []
+        none_there [] c = refl
+        none_there (l ∷ ls) c = absurd (omega arith)
 
-        go : Pends f.batch.lines → Newest bs x f
-        go (nothing y) = absurd (z (ap (λ (c : Row). c.pending) there ∙ ap (λ (c : List model.Line). length c) y))
-        go (pends a rest y) =
-            let k : Linked log (a ∷ rest) = subst (Linked log) y (all_found (Sits log) x.batch bs f.batch f.is h.sits).lines in
-            let d : (row_at rs p).undo ≡ a.number = ap (λ (c : Row). c.undo) there ∙ ap next_undo y in
-            record { top = a; rest = rest; lines = y; shown = u log a rest e k d }
+    -- The newest line as it was read.
+    module _ (z : (row_at o.rows p).pending ≡ 0 → ⊥) (line : Line) (u : TellsLine m b (row_at o.rows p).undo line) where
+      record Newest (f : Batch) : Type 0 where
+        pub top : model.Line
+        pub rest : List model.Line
+        pub lines : f.lines ≡ top ∷ rest
+        pub shown : line ≡ shown_line top rest
 
-    undone_read : (log : List Rec) (bs : List Batch) (x : Rec) → Reads m b log → Holds log bs → Shows bs rs ms → Tells t x → p < 8 → (f : Found x.batch bs p)
-        → undoes (eqb t.kind 4) x (some f.batch) ≡ line_undone t line
-    undone_read log bs x e h s w l f =
-        let a = newest_read log bs x e h s l f in
-        undoes_shown t x f.batch a.top a.rest w a.lines ∙ ap (line_undone t) (sym a.shown)
+      newest_read : (log : List Rec) (bs : List Batch) (x : Rec) → Reads m b log → (h : Holds log bs) (s : Shows bs o) (w : Tells t x) → Newest (there log bs x h s w).batch
+      unfolding row_of next_undo
+      newest_read log bs x e h s w = go (pending_case f.batch.lines)
+        where
+          f : Found x.batch bs p
+          f = there log bs x h s w
 
-    pub undo_wrong : (r : Judged) → line_undone t line ≡ false → r.ok ≡ false → StepsIn m b rs ms t r
-    undo_wrong r c o = undo_off r o (λ log bs x e h s w l f. undone_read log bs x e h s w l f ∙ c)
+          go : Pends f.batch.lines → Newest f.batch
+          go (nothing y) = absurd (z (ap (λ (c : Row). c.pending) (row_is log bs x h s w) ∙ ap (λ (c : List model.Line). length c) y))
+          go (pends a rest y) =
+              let k : Linked log (a ∷ rest) = subst (Linked log) y (all_found (Sits log) x.batch bs f.batch f.is h.sits).lines in
+              let d : (row_at o.rows p).undo ≡ a.number = ap (λ (c : Row). c.undo) (row_is log bs x h s w) ∙ ap next_undo y in
+              record { top = a; rest = rest; lines = y; shown = u log a rest e k d }
 
-    pub undo_right : (p ≡ 8 → ⊥) → line_undone t line ≡ true → StepsIn m b rs ms t (right_with (set rs p (shorter_row (row_at rs p) t.own line.below)) ms)
-    unfolding undone
-    undo_right y c log bs x e h s w n = go (g log bs h s.rows)
-      where
-        go : Placed t.batch bs p 8 → Stepped (chain_step t.own x bs) (tell x.kind t.own x bs) (right_with (set rs p (shorter_row (row_at rs p) t.own line.below)) ms)
-        go (absent i _) = absurd (y i)
-        go (found l i) =
-            let f : Found x.batch bs p = found_as w bs i in
-            let a = newest_read log bs x e h s l f in
-            let row : shorter_row (row_at rs p) t.own line.below ≡ row_of (undone t.own f.batch) =
-            ap₂ (λ (y : Row) (z : Line). shorter_row y t.own z.below) (row_there rs ms x.batch p bs s f l h.few) a.shown
-            ∙ undone_row t.own f.batch a.top a.rest a.lines in
-            let told : tell (kind_of t.kind) t.own x bs ≡ change_batch x.batch (undone t.own) bs = tells_undone t.own x bs in
-            stepped_ok t.own x bs (right_with (set rs p (shorter_row (row_at rs p) t.own line.below)) ms) (kind_of t.kind) (sym w.kind)
-            (asks x bs ∙ ap (undoes (eqb t.kind 4) x) f.is ∙ undone_read log bs x e h s w l f ∙ c)
-            (subst (λ (cs : List Batch). length cs ≤ 8) (sym told) (change_few x.batch bs p f h.few (undone t.own))) refl
-            (subst (λ (cs : List Batch). Shows cs (set rs p (shorter_row (row_at rs p) t.own line.below)) ms) (sym told)
-            (shows_row rs ms x.batch p bs s f l h.few (undone t.own) (shorter_row (row_at rs p) t.own line.below) row refl))
+      undone_read : (log : List Rec) (bs : List Batch) (x : Rec) → Reads m b log → (h : Holds log bs) (s : Shows bs o) (w : Tells t x)
+          → undoes (eqb t.kind 4) x (some (there log bs x h s w).batch) ≡ line_undone t line
+      undone_read log bs x e h s w =
+          let a = newest_read log bs x e h s w in
+          undoes_shown t x (there log bs x h s w).batch a.top a.rest w a.lines ∙ ap (line_undone t) (sym a.shown)
+
+      pub undo_wrong : line_undone t line ≡ false → StepsIn m b o t None
+      undo_wrong c log bs x e h s w n = undo_not log bs x h s w (undone_read log bs x e h s w ∙ c)
+
+      pub undo_right : line_undone t line ≡ true → StepsIn m b o t (right_with (set o.rows p (shorter_row (row_at o.rows p) t.own line.below)) o.marked)
+      unfolding undone
+      undo_right c log bs x e h s w n =
+          let f = there log bs x h s w in
+          let a = newest_read log bs x e h s w in
+          let row : shorter_row (row_at o.rows p) t.own line.below ≡ row_of (undone t.own f.batch) =
+          ap₂ (λ (y : Row) (z : Line). shorter_row y t.own z.below) (row_is log bs x h s w) a.shown
+          ∙ undone_row t.own f.batch a.top a.rest a.lines in
+          let told : tell (kind_of t.kind) t.own x bs ≡ change_batch x.batch (undone t.own) bs = tells_undone t.own x bs in
+          stepped_ok t.own x bs (batches_of (set o.rows p (shorter_row (row_at o.rows p) t.own line.below)) o.marked) (kind_of t.kind) (sym w.kind)
+          (asks x bs ∙ ap (undoes (eqb t.kind 4) x) f.is ∙ undone_read log bs x e h s w ∙ c)
+          (subst (λ (cs : List Batch). length cs ≤ 8) (sym told) (change_few x.batch bs p f h.few (undone t.own)))
+          (subst (λ (cs : List Batch). Shows cs (batches_of (set o.rows p (shorter_row (row_at o.rows p) t.own line.below)) o.marked)) (sym told)
+          (shows_row o x.batch p bs s f (g log bs h s.rows).0 h.few (undone t.own) (shorter_row (row_at o.rows p) t.own line.below) row refl))

@@ -1,30 +1,29 @@
 // The batch chain, one record after the other: which records may follow, and the rows and abort marks of the open batches that they say.
 #![tactic(auto)]
 
-ghost use Rattle.std.specs.Prelude.{◌≡◌, false, ◌≤◌, ◌<◌, set};
+ghost use Rattle.std.specs.Prelude.{◌≡◌, false, ◌≤◌, ◌<◌, set, IfSome};
 ghost use Rattle.def_layout.specs.Sizes.{most_slots};
 ghost use Rattle.def_layout.specs.Numbers.{tab};
 ghost use Rattle.law_bytes.specs.AreaSizes.{HasSlots};
 ghost use Rattle.law_bytes.specs.Eights.{closing};
 ghost use Rattle.law_bytes.specs.DeskRows.{without, LowRows};
-ghost use Rattle.log_chain.specs.Shown.{right_with};
+ghost use Rattle.log_chain.specs.Shown.{batches_of};
 ghost use Rattle.log_chain.specs.Steps.{Places, GoesOn, Steps};
 ghost use Rattle.log_chain.specs.Families.{longer_row};
 ghost use Rattle.log_chain.specs.Undos.{StepsIn, line_undone};
 
-use codec_desk::{closed, new_row, no_rows, row_place, used_rows};
+use codec_desk::{closed, closed_up, new_row, row_place, used_rows};
 use def_layout::Row;
 use log_pending::{Line, line_at};
 
-// What a log says so far: whether it keeps 01's rules, the rows of its open batches, and which of these have their abort mark.
+// The open batches: their rows, and which of them have their abort mark.
 #[derive(Clone, Copy)]
-pub struct Judged {
-    pub ok: bool,
+pub struct Batches {
     pub rows: [Row; 8],
     pub marked: [bool; 8],
 }
 
-// The numbers of a record that the batch chain asks for.
+// The numbers of a record that the batch chain asks for. Its kind stays a number, a rule of the project: 01 names a match on the kinds 1 to 15.
 #[derive(Clone, Copy)]
 pub struct Told {
     pub kind: u32,
@@ -35,102 +34,60 @@ pub struct Told {
     pub second: u32,
 }
 
-pub fn refused() -> Judged
-    ensures { result.ok ≡ false }
-{
-    let rows = no_rows();
-    let marked = [false; 8];
-    Judged {
-        ok: false,
-        rows,
-        marked,
-    }
-}
-
-// The place of an open batch's row, or 8. Batch 0 is never open.
-fn open_place(rows: [Row; 8], batch: u32) -> usize
-    ensures { (result ≤ 8) × Places rows batch result }
+// The place of an open batch's row. Batch 0 is never open.
+fn open_place(batches: &Batches, batch: u32) -> Option<usize>
+    ensures within { IfSome result (λ i. i < 8) }
+    ensures places { Places batches.now.rows batch result }
 {
     if batch == 0 {
-        return 8;
+        return None;
     }
-    row_place(rows, batch)
+    row_place(batches.rows, batch)
 }
 
-// The place of the record's batch if that has no abort mark and the record names its last one, else 8.
-pub fn going_on(rows: [Row; 8], marked: [bool; 8], t: Told) -> usize
-    ensures { (result ≤ 8) × GoesOn rows marked t result }
+// The place of the record's batch, if that has no abort mark and the record names its last one.
+pub fn going_on(batches: &Batches, t: Told) -> Option<usize>
+    ensures within { IfSome result (λ i. i < 8) }
+    ensures goes { GoesOn batches.now t result }
 {
-    let i = open_place(rows, t.batch);
-    if i == 8 {
-        return 8;
+    let i = open_place(batches, t.batch)?;
+    if batches.marked[i] {
+        return None;
     }
-    if marked[i] {
-        return 8;
+    if batches.rows[i].last != t.previous {
+        return None;
     }
-    if rows[i].last != t.previous {
-        return 8;
-    }
-    i
-}
-
-fn keep_mark(marked: [bool; 8], i: usize, k: usize) -> bool
-    requires { k < 8 }
-    ensures { result ≡ closing false marked i k }
-{
-    if k < i {
-        return marked[k];
-    }
-    if k < 7 {
-        return marked[k + 1];
-    }
-    false
-}
-
-// Mark i goes, and the rest close up.
-fn closed_marks(marked: [bool; 8], i: usize) -> [bool; 8]
-    ensures { result ≡ tab 8 (closing false marked i) }
-{
-    let mut r = [false; 8];
-    for k in 0..8 {
-        r[k] = keep_mark(marked, i, k);
-    }
-    r
+    Some(i)
 }
 
 // The batch at place i is no longer open.
-fn dropped(rows: [Row; 8], marked: [bool; 8], i: usize) -> Judged
-    ensures { result ≡ right_with (without rows i) (tab 8 (closing false marked i)) }
+fn dropped(batches: Batches, i: usize) -> Batches
+    ensures { result ≡ batches_of (without batches.rows i) (tab 8 (closing false batches.marked i)) }
 {
-    Judged {
-        ok: true,
-        rows: closed(rows, i),
-        marked: closed_marks(marked, i),
+    Batches {
+        rows: closed(batches.rows, i),
+        marked: closed_up(batches.marked, i, false),
     }
 }
 
-fn changed(mut rows: [Row; 8], marked: [bool; 8], i: usize, row: Row) -> Judged
+fn changed(mut batches: Batches, i: usize, row: Row) -> Batches
     requires { i < 8 }
-    ensures { result ≡ right_with (set rows i row) marked }
+    ensures { result ≡ batches_of (set batches.rows i row) batches.marked }
 {
-    rows[i] = row;
-    Judged {
-        ok: true,
-        rows,
-        marked,
-    }
+    batches.rows[i] = row;
+    batches
 }
 
 // 1: "batch = own number"; more than eight are refused.
-fn begun(rows: [Row; 8], marked: [bool; 8], t: Told) -> Judged
+fn begun(batches: Batches, t: Told) -> Option<Batches>
     requires { t.kind ≡ 1 }
-    ensures { Steps rows marked t result }
+    ensures { Steps batches t result }
 {
-    let i = used_rows(rows);
+    let i = used_rows(batches.rows);
     if i == 8 {
-        return refused();
+        return None;
     }
-    changed(rows, marked, i, new_row(t.own))
+    Some(changed(batches, i, new_row(t.own)))
 }
 
 // A row with a line more, which is the newest.
@@ -139,74 +96,56 @@ pub fn longer(row: Row, own: u32) -> Row
     ensures { result ≡ longer_row row own }
 {
     Row {
-        batch: row.batch,
         last: own,
         undo: own,
         pending: row.pending + 1,
+        ..row
     }
 }
 
 // 2 and 3.
-fn updated(rows: [Row; 8], marked: [bool; 8], t: Told) -> Judged
-    requires { (2 ≤ t.kind) × (t.kind ≤ 3) × LowRows rows }
-    ensures { Steps rows marked t result }
+fn updated(batches: Batches, t: Told) -> Option<Batches>
+    requires { (2 ≤ t.kind) × (t.kind ≤ 3) × LowRows batches.rows }
+    ensures { Steps batches t result }
 {
-    let i = going_on(rows, marked, t);
-    if i == 8 {
-        return refused();
-    }
-    changed(rows, marked, i, longer(rows[i], t.own))
+    let i = going_on(&batches, t)?;
+    Some(changed(batches, i, longer(batches.rows[i], t.own)))
 }
 
 // 6.
-fn committed(rows: [Row; 8], marked: [bool; 8], t: Told) -> Judged
+fn committed(batches: Batches, t: Told) -> Option<Batches>
     requires { t.kind ≡ 6 }
-    ensures { Steps rows marked t result }
+    ensures { Steps batches t result }
 {
-    let i = going_on(rows, marked, t);
-    if i == 8 {
-        return refused();
-    }
-    dropped(rows, marked, i)
+    let i = going_on(&batches, t)?;
+    Some(dropped(batches, i))
 }
 
 // 7.
-fn abort_marked(rows: [Row; 8], mut marked: [bool; 8], t: Told) -> Judged
+fn abort_marked(mut batches: Batches, t: Told) -> Option<Batches>
     requires { t.kind ≡ 7 }
-    ensures { Steps rows marked t result }
+    ensures { Steps batches t result }
 {
-    let i = going_on(rows, marked, t);
-    if i == 8 {
-        return refused();
-    }
-    let row = rows[i];
-    let new = Row {
-        batch: row.batch,
-        last: t.own,
-        undo: row.undo,
-        pending: row.pending,
-    };
-    marked[i] = true;
-    changed(rows, marked, i, new)
+    let i = going_on(&batches, t)?;
+    batches.marked[i] = true;
+    let row = batches.rows[i];
+    Some(changed(batches, i, Row { last: t.own, ..row }))
 }
 
 // 8: "an 8 has nothing pending".
-fn ended(rows: [Row; 8], marked: [bool; 8], t: Told) -> Judged
+fn ended(batches: Batches, t: Told) -> Option<Batches>
     requires { t.kind ≡ 8 }
-    ensures { Steps rows marked t result }
+    ensures { Steps batches t result }
 {
-    let i = open_place(rows, t.batch);
-    if i == 8 {
-        return refused();
-    }
-    let row = rows[i];
+    let i = open_place(&batches, t.batch)?;
+    let row = batches.rows[i];
     if row.pending != 0 {
-        return refused();
+        return None;
     }
     if row.last != t.previous {
-        return refused();
+        return None;
     }
-    dropped(rows, marked, i)
+    Some(dropped(batches, i))
 }
 
 // The line is what the record undoes, and what is below it is what the record says is left.
@@ -229,55 +168,41 @@ fn undoes(t: Told, line: Line) -> bool
 }
 
 // 4 and 5: "a 4 or 5 undoes its newest pending update".
-fn undone(log: &[u8], m: usize, rows: [Row; 8], marked: [bool; 8], t: Told) -> Judged
+fn undone(log: &[u8], m: usize, batches: Batches, t: Told) -> Option<Batches>
     requires { HasSlots m log.now × (4 ≤ t.kind) × (t.kind ≤ 5) }
-    ensures { StepsIn m log.now rows marked t result }
+    ensures { StepsIn m log.now batches t result }
 {
-    let i = open_place(rows, t.batch);
-    if i == 8 {
-        return refused();
-    }
-    let row = rows[i];
+    let i = open_place(&batches, t.batch)?;
+    let row = batches.rows[i];
     if row.pending == 0 {
-        return refused();
+        return None;
     }
     let line = line_at(log, m, row.undo);
     if !undoes(t, line) {
-        return refused();
+        return None;
     }
     let new = Row {
-        batch: row.batch,
         last: t.own,
         undo: line.below,
         pending: row.pending - 1,
+        ..row
     };
-    changed(rows, marked, i, new)
+    Some(changed(batches, i, new))
 }
 
-// 9 to 15: no batch has them.
-fn passed(rows: [Row; 8], marked: [bool; 8]) -> Judged
-    ensures { result ≡ right_with rows marked }
-{
-    Judged {
-        ok: true,
-        rows,
-        marked,
-    }
-}
-
-// One record of the batch chain.
-pub fn step(log: &[u8], m: usize, rows: [Row; 8], marked: [bool; 8], t: Told) -> Judged
-    requires { HasSlots m log.now × (0 < t.kind) × (t.kind < 16) × LowRows rows }
-    ensures { StepsIn m log.now rows marked t result }
+// One record of the batch chain, after which these batches are open; or none, where it may not follow. No batch has the kinds 9 to 15.
+pub fn step(log: &[u8], m: usize, batches: Batches, t: Told) -> Option<Batches>
+    requires { HasSlots m log.now × (0 < t.kind) × (t.kind < 16) × LowRows batches.rows }
+    ensures { StepsIn m log.now batches t result }
 {
     let kind = t.kind;
     match kind {
-        1 => begun(rows, marked, t),
-        2..=3 => updated(rows, marked, t),
-        4..=5 => undone(log, m, rows, marked, t),
-        6 => committed(rows, marked, t),
-        7 => abort_marked(rows, marked, t),
-        8 => ended(rows, marked, t),
-        _ => passed(rows, marked),
+        1 => begun(batches, t),
+        2..=3 => updated(batches, t),
+        4..=5 => undone(log, m, batches, t),
+        6 => committed(batches, t),
+        7 => abort_marked(batches, t),
+        8 => ended(batches, t),
+        _ => Some(batches),
     }
 }

@@ -1,9 +1,9 @@
 -- One slot of the log, judged: its number, its row, its pages, and its record's step.
 use Prim.Native.Nat.{ℕ, suc, ◌*◌}
-use Rattle.std.specs.Prelude.{◌≡◌, Bool, true, false, ◌&&◌, List, [], ◌∷◌, length, get_or, set, eqb}
+use Rattle.std.specs.Prelude.{◌≡◌, Bool, true, false, ◌&&◌, List, [], ◌∷◌, length, get_or, set, eqb, Option, Some, None, IsNone}
 use Rattle.std.proofs.Math.Path.{refl, ap, subst}
 use Rattle.std.proofs.Common.{sym, ◌∙◌, arith}
-use Rattle.def_base.specs.Tests.{clash, Case, yes!, no!, case, and_true, true_eq, eq_true}
+use Rattle.def_base.specs.Tests.{Case, yes!, no!, case, and_true, true_eq, eq_true}
 use Rattle.def_layout.specs.declared.Entry.{Entry}
 use Rattle.def_layout.specs.declared.Row.{Row}
 use Rattle.def_layout.specs.Desks.{row_at}
@@ -20,7 +20,7 @@ use Rattle.codec_slot.specs.declared.Header.TheVariants.{Full}
 use Rattle.codec_slot.specs.Typed.{rec_of, typed_by}
 use Rattle.law_bytes.specs.RecordBytes.{kind_back}
 use Rattle.record_check.specs.Kept.{row_kept, pages_kept, row_kept_full, pages_kept_full}
-use Rattle.log_chain.specs.declared.Judged.{Judged}
+use Rattle.log_chain.specs.declared.Batches.{Batches}
 use Rattle.log_chain.specs.declared.Told.{Told}
 use Rattle.log_pending.specs.Holding.{Holds}
 use Rattle.log_pending.specs.Reading.{Reads}
@@ -31,28 +31,28 @@ use Rattle.log_chain.specs.Undos.{StepsIn}
 use Rattle.log_judge.specs.Updates.{told_by, Plain, TellsUpdate}
 
 -- What a slot that should hold record k of a register of n pages makes of the batches.
-unfoldable pub Turned : ℕ → ℕ → Slot → List Batch → Judged → Type 0
-Turned n k empty bs r = r.ok ≡ false
+unfoldable pub Turned : ℕ → ℕ → Slot → List Batch → Option Batches → Type 0
+Turned n k empty bs r = IsNone r
 Turned n k (full own x) bs r = Stepped (eqb own k && (row k x && (names_pages n x && chain_step k x bs))) (tell x.kind k x bs) r
-Turned n k (other b) bs r = r.ok ≡ false
+Turned n k (other b) bs r = IsNone r
 
 -- Slot i, whatever log it is that the slots before it hold and that the rows and marks show.
-abbrev pub Turns : ℕ → ℕ → List ℕ → ℕ → List Row → List Bool → Judged → Type 0
-Turns n m b i rs ms r = (log : List Rec) (bs : List Batch) → Reads m b log → length log ≡ i → Holds log bs → Shows bs rs ms
+abbrev pub Turns : ℕ → ℕ → List ℕ → ℕ → Batches → Option Batches → Type 0
+Turns n m b i o r = (log : List Rec) (bs : List Batch) → Reads m b log → length log ≡ i → Holds log bs → Shows bs o
     → Turned n (suc i) (read_slot (part b (slot_size * i) slot_size)) bs r
 
-pub turned_none : (n k : ℕ) (s : Slot) (bs : List Batch) (r : Judged) → ((own : ℕ) (x : Rec) → s ≡ full own x → ⊥) → r.ok ≡ false → Turned n k s bs r
+pub turned_none : (n k : ℕ) (s : Slot) (bs : List Batch) → ((own : ℕ) (x : Rec) → s ≡ full own x → ⊥) → Turned n k s bs None
 unfolding Turned
-turned_none n k empty bs r h o = o
-turned_none n k (full own x) bs r h o = absurd (h own x refl)
-turned_none n k (other b) bs r h o = o
+turned_none n k empty bs h = refl
+turned_none n k (full own x) bs h = absurd (h own x refl)
+turned_none n k (other b) bs h = refl
 
 -- A slot's number, row and pages, as the program tests them.
 unfoldable pub in_order : ℕ → ℕ → ℕ → Header → List Entry → Bool
 in_order n k own h es = eqb own k && (row_kept h es && pages_kept n h)
 
 -- A slot that holds a record, by the program's header and entries.
-module _ (n m : ℕ) (b : List ℕ) (i : ℕ) (rs : List Row) (ms : List Bool) (r : Judged) (h : Header) (es : List Entry)
+module _ (n m : ℕ) (b : List ℕ) (i : ℕ) (o : Batches) (h : Header) (es : List Entry)
     (kind count level own batch previous pa pb pc key second right : ℕ)
     (e : typed_by (part b (slot_size * i) slot_size) h es ≡ read_slot (part b (slot_size * i) slot_size))
     (q : h ≡ Full kind count level own batch previous pa pb pc key second right) where
@@ -82,31 +82,31 @@ module _ (n m : ℕ) (b : List ℕ) (i : ℕ) (rs : List Row) (ms : List Bool) (
           row_kept_full (part b (slot_size * i) slot_size) es own x h is_full ∙ ap (λ (y : ℕ). row y x) (true_eq own (suc i) t) in
           rw (t, row_is, pages_is) (and_all (row (suc i) x) (names_pages n x) (chain_step (suc i) x bs))
 
-  as_turned : (bs : List Batch) → Stepped (in_order n (suc i) own h es && chain_step (suc i) x bs) (tell x.kind (suc i) x bs) r
+  as_turned : (bs : List Batch) (r : Option Batches) → Stepped (in_order n (suc i) own h es && chain_step (suc i) x bs) (tell x.kind (suc i) x bs) r
       → Turned n (suc i) (read_slot (part b (slot_size * i) slot_size)) bs r
   unfolding Turned
-  as_turned bs s =
+  as_turned bs r s =
       subst (λ (y : Slot). Turned n (suc i) y bs r) (sym is_full ∙ e)
       (subst (λ (c : Bool). Stepped c (tell x.kind (suc i) x bs) r) (sym (tests bs)) s)
 
-  pub out_of_order : in_order n (suc i) own h es ≡ false → r.ok ≡ false → Turns n m b i rs ms r
-  out_of_order z o log bs rd l hd s = as_turned bs (record { ok = o ∙ sym (rw z); shows = λ c. clash (sym c ∙ rw z) })
+  pub out_of_order : in_order n (suc i) own h es ≡ false → Turns n m b i o None
+  out_of_order z log bs rd l hd s = as_turned bs None (rw z)
 
   pub turned_step : in_order n (suc i) own h es ≡ true → (k : ℕ) → k ≡ kind_number (kind_of kind)
-      → StepsIn m b rs ms (record { kind = k; own = own; batch = batch; previous = previous; key = key; second = second }) r → Turns n m b i rs ms r
+      → (r : Option Batches) → StepsIn m b o (record { kind = k; own = own; batch = batch; previous = previous; key = key; second = second }) r → Turns n m b i o r
   unfolding in_order
-  turned_step z k ek f log bs rd l hd s =
+  turned_step z k ek r f log bs rd l hd s =
       let c : own ≡ suc i = true_eq own (suc i) (and_true (eqb own (suc i)) (row_kept h es && pages_kept n h) z).0 in
       let g = f log bs x rd hd s (record { kind = ap kind_of ek ∙ kind_back (kind_of kind); batch = refl; previous = refl; key = refl; second = refl }) (c ∙ ap suc (sym l)) in
-      as_turned bs (subst (λ (y : Bool). Stepped (y && chain_step (suc i) x bs) (tell x.kind (suc i) x bs) r) (sym z)
+      as_turned bs r (subst (λ (y : Bool). Stepped (y && chain_step (suc i) x bs) (tell x.kind (suc i) x bs) r) (sym z)
       (subst (λ (y : ℕ). Stepped (chain_step y x bs) (tell x.kind y x bs) r) c g))
 
 -- A slot that is in order in all but its chain, by its numbers alone.
-module _ (n m : ℕ) (b : List ℕ) (i : ℕ) (rs : List Row) (ms : List Bool) (t : Told) (holds : Plain n (suc i) (part b (slot_size * i) slot_size)) (told : t ≡ told_by (part b (slot_size * i) slot_size)) where
+module _ (n m : ℕ) (b : List ℕ) (i : ℕ) (o : Batches) (t : Told) (holds : Plain n (suc i) (part b (slot_size * i) slot_size)) (told : t ≡ told_by (part b (slot_size * i) slot_size)) where
   abbrev bytes : List ℕ
   bytes = part b (slot_size * i) slot_size
 
-  pub by_step : (r : Judged) → StepsIn m b rs ms t r → Turns n m b i rs ms r
+  pub by_step : (r : Option Batches) → StepsIn m b o t r → Turns n m b i o r
   unfolding Turned record_fields
   by_step r f log bs rd l hd s =
       let own : t.own ≡ suc i = ap (λ (y : Told). y.own) told ∙ holds.number in
@@ -122,17 +122,15 @@ module _ (n m : ℕ) (b : List ℕ) (i : ℕ) (rs : List Row) (ms : List Bool) (
       tells = record { kind = refl; batch = refl; previous = refl; key = refl; second = refl }
 
 -- One that holds an update.
-module _ (n m : ℕ) (b : List ℕ) (i : ℕ) (rs : List Row) (ms : List Bool) (t : Told) (u : TellsUpdate n m b i t) (p : ℕ) (g : GoesOn rs ms t p) where
-  steps : (r : Judged) → Steps rs ms t r → Turns n m b i rs ms r
-  steps r f = by_step n m b i rs ms t u.holds u.told r (λ log bs x rd. f log bs x)
+module _ (n m : ℕ) (b : List ℕ) (i : ℕ) (o : Batches) (t : Told) (u : TellsUpdate n m b i t) where
+  steps : (r : Option Batches) → Steps o t r → Turns n m b i o r
+  steps r f = by_step n m b i o t u.holds u.told r (λ log bs x rd. f log bs x)
 
-  pub update_halts : p ≡ 8 → Turns n m b i rs ms (record { ok = false; rows = rs; marked = ms })
-  update_halts z =
-      let r : Judged = record { ok = false; rows = rs; marked = ms } in
-      steps r (halts rs ms t p (updates_ask t.kind u.least u.most) g r z refl)
+  pub update_halts : GoesOn o t None → Turns n m b i o None
+  update_halts g = steps None (halts o t (updates_ask t.kind u.least u.most) g)
 
-  pub update_goes : (p ≡ 8 → ⊥) → (y : Row) → y ≡ longer_row (row_at rs p) t.own → Turns n m b i rs ms (right_with (set rs p y) ms)
-  update_goes z y v = steps (right_with (set rs p y) ms) (updates rs ms t p g z u.least u.most y v)
+  pub update_goes : (p : ℕ) → GoesOn o t (Some p) → (y : Row) → y ≡ longer_row (row_at o.rows p) t.own → Turns n m b i o (right_with (set o.rows p y) o.marked)
+  update_goes p g y v = steps (right_with (set o.rows p y) o.marked) (updates o t p g u.least u.most y v)
 
 -- The batch of the first row goes on there.
 pub first_place : (rs : List Row) (n : ℕ) → (row_at rs 0).batch ≡ n → 0 ≡ place_of n rs
@@ -140,5 +138,6 @@ unfolding place_of
 first_place [] n e = refl
 first_place (r ∷ rs) n e = rw (eq_true r.batch n e)
 
-pub first_goes : (rs : List Row) (ms : List Bool) (t : Told) → (t.batch ≡ 0 → ⊥) → (row_at rs 0).batch ≡ t.batch → get_or ms 0 false ≡ false → (row_at rs 0).last ≡ t.previous → GoesOn rs ms t 0
-first_goes rs ms t z e k v = going_on rs ms t 0 (place_row rs t.batch 0 z (first_place rs t.batch e)) (λ q. absurd (omega arith)) k v
+pub first_goes : (o : Batches) (t : Told) → (t.batch ≡ 0 → ⊥) → (row_at o.rows 0).batch ≡ t.batch → get_or o.marked 0 false ≡ false → (row_at o.rows 0).last ≡ t.previous
+    → GoesOn o t (Some 0)
+first_goes o t z e k v = going_on o t 0 (place_row o.rows t.batch (Some 0) z (first_place o.rows t.batch e, omega arith)) k v

@@ -47,10 +47,16 @@ pub record TellsUpdate (n m : ℕ) (b : List ℕ) (i : ℕ) (t : Told) : Type 0 
   pub least : 2 ≤ t.kind
   pub most : t.kind ≤ 3
 
--- The same of a begin or a commit.
+-- Those of a begin or a commit, whatever the register's page count.
+pub record BeginOrCommit (own : ℕ) (b : List ℕ) : Type 0 where
+  pub plain : (n : ℕ) → 0 < n → Plain n own b
+  pub least : 0 < be32 b 0 / 268435456
+
+-- Slot i, as the program tells of it.
 pub record TellsBatch (n m : ℕ) (b : List ℕ) (i : ℕ) (t : Told) : Type 0 where
   pub holds : Plain n (suc i) (part b (slot_size * i) slot_size)
   pub told : t ≡ told_by (part b (slot_size * i) slot_size)
+  pub least : 0 < t.kind
   pub small : t.kind < 16
 
 pub plain_full : (n own : ℕ) (b : List ℕ) → Plain n own b → is_empty (read_slot b) ≡ false
@@ -170,7 +176,8 @@ module _ (n m : ℕ) (b : List ℕ) (i : ℕ) where
         let k : t.kind ≡ be32 lent 0 / 268435456 = ap (λ (y : Told). y.kind) e in
         record { holds = in_slot u.plain; told = e ∙ ap told_by slot; least = omega (arith, k, u.least); most = omega (arith, k, u.most) }
 
-    pub tells_batch : Bytes b → Plain n (i + 1) lent → TellsBatch n m b i t
-    tells_batch w u =
+    pub tells_batch : Bytes b → 0 < n → BeginOrCommit (i + 1) lent → TellsBatch n m b i t
+    tells_batch w some u =
+        let k : t.kind ≡ be32 lent 0 / 268435456 = ap (λ (y : Told). y.kind) e in
         let few : be32 lent 0 < 2 ^ 32 = be32_lt lent 0 (bytes_take (slot_size * i + slot_size - slot_size * i) (drop (slot_size * i) b) (bytes_drop b (slot_size * i) w)) in
-        record { holds = in_slot u; told = e ∙ ap told_by slot; small = omega (arith, ap (λ (y : Told). y.kind) e, few) }
+        record { holds = in_slot (u.plain n some); told = e ∙ ap told_by slot; least = omega (arith, k, u.least); small = omega (arith, k, few) }

@@ -1,13 +1,12 @@
 // What one slot of the log holds: a record in order, and what it tells the batch chain.
-ghost use Rattle.std.specs.Prelude.{◌≡◌, Bool, true, List, ℕ, suc, ◌*◌, ◌<◌, length};
+ghost use Rattle.std.specs.Prelude.{◌≡◌, true, suc, ◌*◌, ◌<◌, length, IfSome};
 ghost use Rattle.def_layout.specs.Sizes.{slot_size, most_slots};
 ghost use Rattle.def_layout.specs.RecordBytes.{read_slot};
 ghost use Rattle.def_model.specs.Log.{is_empty};
 ghost use Rattle.law_bytes.specs.AreaSizes.{HasSlots};
 ghost use Rattle.law_bytes.specs.Words.{part};
-ghost use Rattle.def_layout.specs.declared.Row as layout;
-ghost use Rattle.log_chain.specs.Shown.{right_with};
-ghost use Rattle.log_judge.specs.Updates.{told_by, Plain, Update, TellsUpdate, TellsBatch};
+ghost use Rattle.log_chain.specs.declared.Batches as chain;
+ghost use Rattle.log_judge.specs.Updates.{told_by, BeginOrCommit, Update, TellsUpdate, TellsBatch};
 ghost use Rattle.log_judge.specs.Turns.{in_order, Turns};
 
 use codec_bytes::{get32, is_zero};
@@ -38,20 +37,6 @@ pub fn in_order(s: Slot, own: u32, i: usize, n: usize) -> bool
     pages_ok(s, n)
 }
 
-// Of a slot that tells nothing.
-fn no_told() -> Told
-    ensures { result.kind ≡ 0 }
-{
-    Told {
-        kind: 0,
-        own: 0,
-        batch: 0,
-        previous: 0,
-        key: 0,
-        second: 0,
-    }
-}
-
 // What a slot's 144 bytes tell the batch chain.
 fn told_at(b: &[u8]) -> Told
     requires { length b.now ≡ slot_size }
@@ -70,7 +55,7 @@ fn told_at(b: &[u8]) -> Told
 // Whether 144 bytes hold begin or commit `number`: eight words, and zeros after them.
 fn is_batch(b: &[u8], number: u32) -> bool
     requires { length b.now ≡ slot_size }
-    ensures { result ≡ true → (n : ℕ) → 0 < n → Plain n number b.now }
+    ensures { result ≡ true → BeginOrCommit number b.now }
 {
     let clear = is_zero(&b[slot::ENTRIES_AT..SLOT_SIZE]);
     if get32(b, slot::OWN_AT) != number {
@@ -104,19 +89,19 @@ fn is_batch(b: &[u8], number: u32) -> bool
     clear
 }
 
-// What a begin or a commit at slot i tells the batch chain; kind 0 where the slot holds neither.
-pub fn batch_at(log: &[u8], m: usize, n: usize, i: usize) -> Told
+// What a begin or a commit at slot i tells the batch chain. None says nothing of the slot.
+pub fn batch_at(log: &[u8], m: usize, n: usize, i: usize) -> Option<Told>
     requires { HasSlots m log.now × (i < m) }
-    ensures { (result.kind ≡ 0 → ⊥) → TellsBatch n m log.now i result }
+    ensures { IfSome result (TellsBatch n m log.now i) }
 {
     let b = &log[SLOT_SIZE * i..SLOT_SIZE * i + SLOT_SIZE];
     if n == 0 {
-        return no_told();
+        return None;
     }
     if !is_batch(b, (i + 1) as u32) {
-        return no_told();
+        return None;
     }
-    told_at(b)
+    Some(told_at(b))
 }
 
 // Whether 144 bytes hold insert or delete number `own` on a page below n: eight words, and zeros after them.
@@ -150,22 +135,22 @@ fn is_update(b: &[u8], own: u32, n: usize) -> bool
     is_zero(&b[slot::ENTRIES_AT..SLOT_SIZE])
 }
 
-// What an update at slot i tells the batch chain; kind 0 where the slot holds none.
-pub fn update_at(log: &[u8], m: usize, n: usize, i: usize) -> Told
+// What an update at slot i tells the batch chain. None says nothing of the slot.
+pub fn update_at(log: &[u8], m: usize, n: usize, i: usize) -> Option<Told>
     requires { HasSlots m log.now × (i < m) }
-    ensures { (result.kind ≡ 0 → ⊥) → TellsUpdate n m log.now i result }
+    ensures { IfSome result (TellsUpdate n m log.now i) }
 {
     let b = &log[SLOT_SIZE * i..SLOT_SIZE * i + SLOT_SIZE];
     if !is_update(b, (i + 1) as u32, n) {
-        return no_told();
+        return None;
     }
-    told_at(b)
+    Some(told_at(b))
 }
 
 // Whether slot i holds a change of the tree, in order in all. No batch has it: the rows and marks stay, and need not be passed on.
 pub fn is_change(log: &[u8], m: usize, n: usize, i: usize) -> bool
     requires { HasSlots m log.now × (i < m) }
-    ensures { result ≡ true → (rs : List layout.Row) (ms : List Bool) → Turns n m log.now i rs ms (right_with rs ms) }
+    ensures { result ≡ true → (o : chain.Batches) → Turns n m log.now i o (Some o) }
 {
     if get32(log, SLOT_SIZE * i) < FIRST_CHANGE {
         return false;

@@ -1,5 +1,5 @@
 -- The change of A, B, C or the map, kind by kind, from what the program's steps yield.
-use Rattle.std.specs.Prelude.{◌≡◌, ℕ, suc, ◌+◌, ◌-◌, ◌%◌, ◌<◌, ◌≤◌, true, false, set, eqb}
+use Rattle.std.specs.Prelude.{◌≡◌, refl, ℕ, suc, ◌+◌, ◌-◌, ◌%◌, ◌<◌, ◌≤◌, true, false, set, eqb}
 use Rattle.std.proofs.Math.Path.{ap, sym, subst}
 use Rattle.std.proofs.Common.{ap₂, ◌∙◌, length-take, take_all}
 use native.Mathlib.Omega.{arith}
@@ -9,18 +9,21 @@ use Rattle.std.proofs.Math.ListN.{take}
 use Rattle.def_base.specs.Tests.{pick, neq_false}
 use Rattle.def_layout.specs.declared.Entry.{Entry}
 use Rattle.def_layout.specs.Entries.{entry, entry_at, top, insert_sorted, remove_key}
-use Rattle.def_layout.specs.Pages.{Page, PageKind, page_kind, index, kind_at, node_at, freed}
+use Rattle.def_layout.specs.Numbers.{tab}
+use Rattle.def_layout.specs.Pages.{Page, kind_at, node_at, freed}
+use Rattle.def_layout.specs.declared.page.PageKind.{PageKind}
+use Rattle.def_layout.specs.declared.page.PageKind.TheVariants.{Free, Leaf, Index, Map}
 use Rattle.def_layout.specs.Records.{Kind, kind_of}
 use Rattle.law_bytes.specs.Tables.{tab_length}
 use Rattle.law_bytes.specs.Ranges.{Run, in_run, past}
 use Rattle.law_bytes.specs.EntryBytes.{used}
 use Rattle.codec_page.specs.declared.Page as program
-use Rattle.codec_page.specs.Typed.{typed, used_entries, used_entries_node}
-use Rattle.def_model.specs.Change.{Role, kept, link_in, unlink_in, into_a, share_in_a, share_in_b, with_entries, with_chain, with_marks, with_lsn, entries_in, cut_to_size, change_a, change_b, change_c, change, takes, shape, role, as_map, act}
+use Rattle.codec_page.specs.Typed.{typed, used_entries}
+use Rattle.def_model.specs.Change.{Role, kept, link_in, unlink_in, into_a, share_in_a, share_in_b, with_entries, with_chain, with_marks, with_lsn, entries_in, cut_to_size, change_a, change_b, change, takes, shape, role, as_map, act}
 use Rattle.record_apply.specs.declared.Record.{Record}
 use Rattle.record_apply.specs.Lists.{at_most_room}
-use Rattle.record_apply.specs.Pages.{rec, node_of, entries_in_node, entries_in_map, node_entries}
-use Rattle.record_apply.specs.Roles.{but_b, but_marks, role_at, role_map, quiet_low, quiet_past, quiet_mid}
+use Rattle.record_apply.specs.Pages.{rec, node_of, node_entries, level_kind}
+use Rattle.record_apply.specs.Roles.{but_b, but_marks, quiet_low, quiet_past, quiet_mid}
 
 take_room : (l : List Entry) → take 14 (take 14 l) ≡ take 14 l
 take_room l = take_all 14 (take 14 l) (omega (arith, length-take 14 l))
@@ -30,22 +33,34 @@ unfolding cut_to_size
 chain_cut right high es l x e =
     ap (λ (m : List Entry). record { kind = x.kind; level = x.level % 16; right = right; high = high; lsn = x.lsn; own = x.own; entries = m; marks = x.marks }) e
 
+entries_alike : (f : List Entry → List Entry) (n : ℕ) (es l : List Entry) → l ≡ take 14 (f (used n es)) → (k : PageKind)
+    → entries_in k l ≡ entries_in k (f (used_entries k n es))
+unfolding entries_in used_entries
+entries_alike f n es l q Free = ap (λ (m : List Entry). take 14 m) q ∙ take_room (f (used n es))
+entries_alike f n es l q Leaf = ap (λ (m : List Entry). take 14 m) q ∙ take_room (f (used n es))
+entries_alike f n es l q Index = ap (λ (m : List Entry). take 14 m) q ∙ take_room (f (used n es))
+entries_alike f n es l q Map = refl
+
 -- ---- new pages
 
-pub filled : (k level own right high n : ℕ) (es : List Entry) (y : Page) → page_kind k ≡ kind_at level → k < 3 → n ≤ 14
-    → y ≡ node_of k level own right high (used n es) → y ≡ cut_to_size (node_at own level right high (used n es))
+pub filled : (level own right high n : ℕ) (es : List Entry) (y : Page) → n ≤ 14
+    → y ≡ node_of (kind_at level) level own right high (used n es) → y ≡ cut_to_size (node_at own level right high (used n es))
 unfolding cut_to_size
-filled k level own right high n es y p j h e =
-    e ∙ ap₂ (λ (q : PageKind) (l : List Entry). record { kind = q; level = level % 16; right = right; high = high; lsn = 0; own = own; entries = l; marks = [] })
-    p (node_entries k n es j h ∙ ap (λ (q : PageKind). entries_in q (used n es)) p)
+filled level own right high n es y h e =
+    e ∙ ap (λ (l : List Entry). record { kind = kind_at level; level = level % 16; right = right; high = high; lsn = 0; own = own; entries = l; marks = [] })
+    (node_entries (kind_at level) n es (level_kind level) h)
 
-pub raised : (level own k c b : ℕ) (l : List Entry) (y : Page) → l ≡ entry k c ∷ entry top b ∷ [] → y ≡ node_of 2 (level % 16 + 1) own 0 top l
+pub freed_typed : (own n : ℕ) (es : List Entry) (y : Page) → n ≡ 0 → y ≡ node_of Free 0 own 0 0 (used n es) → y ≡ cut_to_size (freed own)
+unfolding entries_in cut_to_size tab
+freed_typed own n es y z e = e ∙ ap (λ (k : ℕ). node_of Free 0 own 0 0 (used k es)) z
+
+pub raised : (level own k c b : ℕ) (l : List Entry) (y : Page) → l ≡ entry k c ∷ entry top b ∷ [] → y ≡ node_of Index (level % 16 + 1) own 0 top l
     → y ≡ cut_to_size (node_at own (suc level) 0 top (entry k c ∷ entry top b ∷ []))
-unfolding entries_in cut_to_size page_kind
+unfolding entries_in cut_to_size
 raised level own k c b l y q e =
     let s : (level % 16 + 1) % 16 ≡ suc level % 16 = omega arith in
     let z : eqb (suc level) 0 ≡ false = neq_false (λ (o : suc level ≡ 0). omega arith) in
-    e ∙ ap₂ (λ (n : ℕ) (m : List Entry). record { kind = index; level = n; right = 0; high = top; lsn = 0; own = own; entries = m; marks = [] }) s q
+    e ∙ ap₂ (λ (n : ℕ) (m : List Entry). record { kind = Index; level = n; right = 0; high = top; lsn = 0; own = own; entries = m; marks = [] }) s q
     ∙ sym (rw z)
 
 -- ---- A
@@ -122,19 +137,7 @@ module _ (r : Record) (x : program.Page) (y : Page) where
   by_chain : (f : List Entry → List Entry) (right high : ℕ) (l : List Entry) → l ≡ take 14 (f (used x.count x.entries))
       → y ≡ cut_to_size (with_chain right high l (typed x)) → y ≡ cut_to_size (with_chain right high (f (typed x).entries) (typed x))
   unfolding typed
-  by_chain f right high l q e = e ∙ chain_cut right high (f (typed x).entries) l (typed x) cut_alike
-    where
-      cut_alike : entries_in (page_kind x.kind) l ≡ entries_in (page_kind x.kind) (f (used_entries (page_kind x.kind) x.count x.entries))
-      cut_alike =
-          elim (dec_lt x.kind 3) [
-            | yes k ↦
-                entries_in_node x.kind l k ∙ ap (λ (m : List Entry). take 14 m) q ∙ take_room (f (used x.count x.entries))
-                ∙ ap (λ (es : List Entry). take 14 (f es)) (sym (used_entries_node x.count x.entries x.kind k))
-                ∙ sym (entries_in_node x.kind (f (used_entries (page_kind x.kind) x.count x.entries)) k)
-            | no k ↦
-                let m : 3 ≤ x.kind = omega arith in
-                entries_in_map x.kind l m ∙ sym (entries_in_map x.kind (f (used_entries (page_kind x.kind) x.count x.entries)) m)
-          ]
+  by_chain f right high l q e = e ∙ chain_cut right high (f (typed x).entries) l (typed x) (entries_alike f x.count x.entries l q x.kind)
 
   module _ (l : List Entry) where
     pub a_insert : r.kind ≡ 2 → l ≡ take 14 (insert_sorted r.key r.second (used x.count x.entries)) → y ≡ cut_to_size (with_entries l (typed x)) → A (kind_of r.kind)
@@ -193,28 +196,6 @@ module _ (r : Record) (x : program.Page) (y : Page) where
       (at_most_room n es (kept (used r.count r.entries) (used x.count x.entries)) h
       (q ∙ sym (rw (tab_length r.count (entry_at r.entries), tab_length x.count (entry_at x.entries))))) e
       ∙ ap (λ (n : ℕ). cut_to_size (change_a (kind_of n) (rec r) (typed x))) (sym k)
-
--- ---- by the part
-
-module _ (r : Record) (x : program.Page) (y : Page) (t : ℕ) where
-  pub change_none : t ≡ 0 → y ≡ cut_to_size (typed x) → y ≡ cut_to_size (change (rec r) (role_at t) (typed x))
-  unfolding change role_at
-  change_none k e = e ∙ ap (λ (n : ℕ). cut_to_size (change (rec r) (role_at n) (typed x))) (sym k)
-
-  pub change_as_a : t ≡ 1 → y ≡ cut_to_size (change_a (kind_of r.kind) (rec r) (typed x)) → y ≡ cut_to_size (change (rec r) (role_at t) (typed x))
-  unfolding change role_at
-  change_as_a k e = e ∙ ap (λ (n : ℕ). cut_to_size (change (rec r) (role_at n) (typed x))) (sym k)
-
-  pub change_as_b : t ≡ 2 → y ≡ cut_to_size (change_b (kind_of r.kind) (rec r) (typed x)) → y ≡ cut_to_size (change (rec r) (role_at t) (typed x))
-  unfolding change role_at
-  change_as_b k e = e ∙ ap (λ (n : ℕ). cut_to_size (change (rec r) (role_at n) (typed x))) (sym k)
-
-  pub change_as_c : t ≡ 3 → y ≡ cut_to_size (node_at r.c r.level r.b r.key (used r.count r.entries)) → y ≡ cut_to_size (change (rec r) (role_at t) (typed x))
-  unfolding change change_c role_at
-  change_as_c k e = e ∙ ap (λ (n : ℕ). cut_to_size (change (rec r) (role_at n) (typed x))) (sym k)
-
-  pub change_as_map : 4 ≤ t → y ≡ cut_to_size (change (rec r) as_map (typed x)) → y ≡ cut_to_size (change (rec r) (role_at t) (typed x))
-  change_as_map k e = e ∙ ap (λ (o : Role). cut_to_size (change (rec r) o (typed x))) (sym (role_map t k))
 
 -- The number put in.
 pub stamped : (r : Record) (n p : ℕ) (o : Role) (x : program.Page) (y : program.Page) → o ≡ role (rec r) p → typed y ≡ cut_to_size (change (rec r) o (typed x))

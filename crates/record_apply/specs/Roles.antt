@@ -1,36 +1,31 @@
--- A page's part in a record, by number, and which parts a kind has.
-use Rattle.std.specs.Prelude.{◌≡◌, refl, ℕ, zero, suc, ◌+◌, ◌/◌, ◌%◌, ◌<◌, ◌≤◌, Bool, true, false, ◌&&◌, eqb}
-use Rattle.std.proofs.Math.Path.{sym, subst}
+-- A page's part in a record, and which parts a kind has.
+use Rattle.std.specs.Prelude.{◌≡◌, ℕ, ◌<◌, ◌≤◌, Bool, ◌&&◌, eqb, Option, Some, None}
+use Rattle.std.proofs.Math.Path.{ap, sym, subst}
+use Rattle.def_base.specs.Tests.{pick}
 use native.Mathlib.Omega.{arith}
 use Rattle.std.proofs.Math.Decide.{dec_lt}
 use Rattle.std.proofs.Math.ListN.{get_or-eq_default}
-use Rattle.def_base.specs.Tests.{pick}
 use Rattle.def_layout.specs.Records.{Kind, kinds, kind_of, begin, insert, delete, undo_insert, undo_delete, commit, abort_mark, end, link, unlink, merge, redistribute, raise, lower}
 use Rattle.law_bytes.specs.Ranges.{Run, in_run, past}
 use Rattle.def_model.specs.Change as model
-use Rattle.def_model.specs.Change.{Role, as_a, as_b, as_c, as_map, Shape, shape, role}
+use Rattle.def_model.specs.Change.{Role, as_a, as_b, as_c, as_map, Shape, changes, shape, role}
 use Rattle.record_apply.specs.declared.Record.{Record}
 use Rattle.record_apply.specs.Pages.{rec}
+use Rattle.record_apply.specs.declared.roles.Parts.{Parts}
+use Rattle.record_apply.specs.declared.roles.Role as program
+use Rattle.record_apply.specs.declared.roles.Role.TheVariants.{A, B, C, Map}
 
--- None, A, B, C, the map.
-unfoldable pub role_at : ℕ → Role
-role_at zero = model.none
-role_at (suc zero) = as_a
-role_at (suc (suc zero)) = as_b
-role_at (suc (suc (suc zero))) = as_c
-role_at (suc (suc (suc (suc n)))) = as_map
+-- A page's part, and none where it has none.
+unfoldable pub as_role : Option program.Role → Role
+as_role None = model.none
+as_role (Some A) = as_a
+as_role (Some B) = as_b
+as_role (Some C) = as_c
+as_role (Some Map) = as_map
 
-pub role_map : (t : ℕ) → 4 ≤ t → role_at t ≡ as_map
-unfolding role_at
-role_map zero h = absurd (omega arith)
-role_map (suc zero) h = absurd (omega arith)
-role_map (suc (suc zero)) h = absurd (omega arith)
-role_map (suc (suc (suc zero))) h = absurd (omega arith)
-role_map (suc (suc (suc (suc t)))) h = refl
-
--- The parts that a kind has, as a bit each.
-unfoldable pub mask : Shape → ℕ
-mask s = pick s.a 8 0 + pick s.b 4 0 + pick s.c 2 0 + pick s.m 1 0
+-- The parts that a kind has.
+abbrev pub as_shape : Parts → Shape
+as_shape p = changes p.a p.b p.c p.map
 
 -- ---- kinds by number
 
@@ -92,80 +87,12 @@ module _ (P : Kind → Type 0) (k : ℕ) where
             ]
       ]
 
--- ---- a mask's bits
-
-abbrev bit : ℕ → ℕ → Bool
-bit n w = eqb (n / w % 2) 1
-
-mask_bits : (a b c m : Bool)
-    → (bit (pick a 8 0 + pick b 4 0 + pick c 2 0 + pick m 1 0) 8 ≡ a) × (bit (pick a 8 0 + pick b 4 0 + pick c 2 0 + pick m 1 0) 4 ≡ b) × (bit (pick a 8 0 + pick b 4 0 + pick c 2 0 + pick m 1 0) 2 ≡ c) × (bit (pick a 8 0 + pick b 4 0 + pick c 2 0 + pick m 1 0) 1 ≡ m)
-mask_bits true true true true = (refl, refl, refl, refl)
-mask_bits true true true false = (refl, refl, refl, refl)
-mask_bits true true false true = (refl, refl, refl, refl)
-mask_bits true true false false = (refl, refl, refl, refl)
-mask_bits true false true true = (refl, refl, refl, refl)
-mask_bits true false true false = (refl, refl, refl, refl)
-mask_bits true false false true = (refl, refl, refl, refl)
-mask_bits true false false false = (refl, refl, refl, refl)
-mask_bits false true true true = (refl, refl, refl, refl)
-mask_bits false true true false = (refl, refl, refl, refl)
-mask_bits false true false true = (refl, refl, refl, refl)
-mask_bits false true false false = (refl, refl, refl, refl)
-mask_bits false false true true = (refl, refl, refl, refl)
-mask_bits false false true false = (refl, refl, refl, refl)
-mask_bits false false false true = (refl, refl, refl, refl)
-mask_bits false false false false = (refl, refl, refl, refl)
-
-pub mask_a : (s : Shape) → eqb (mask s / 8 % 2) 1 ≡ s.a
-unfolding mask
-mask_a s = (mask_bits s.a s.b s.c s.m).0
-
-pub mask_b : (s : Shape) → eqb (mask s / 4 % 2) 1 ≡ s.b
-unfolding mask
-mask_b s = (mask_bits s.a s.b s.c s.m).1
-
-pub mask_c : (s : Shape) → eqb (mask s / 2 % 2) 1 ≡ s.c
-unfolding mask
-mask_c s = (mask_bits s.a s.b s.c s.m).2
-
-pub mask_m : (s : Shape) → eqb (mask s / 1 % 2) 1 ≡ s.m
-unfolding mask
-mask_m s = (mask_bits s.a s.b s.c s.m).3
-
 -- ---- the part, test by test
 
-module _ (r : Record) (p bits : ℕ) (e : bits ≡ mask (shape (kind_of r.kind))) where
-  is_a : eqb (bits / 8 % 2) 1 ≡ (shape (kind_of r.kind)).a
-  is_a = rw e (mask_a (shape (kind_of r.kind)))
+abbrev pub first_of : (a b c m : Bool) → Role
+first_of a b c m = pick a as_a (pick b as_b (pick c as_c (pick m as_map model.none)))
 
-  is_b : eqb (bits / 4 % 2) 1 ≡ (shape (kind_of r.kind)).b
-  is_b = rw e (mask_b (shape (kind_of r.kind)))
-
-  is_c : eqb (bits / 2 % 2) 1 ≡ (shape (kind_of r.kind)).c
-  is_c = rw e (mask_c (shape (kind_of r.kind)))
-
-  is_m : eqb (bits / 1 % 2) 1 ≡ (shape (kind_of r.kind)).m
-  is_m = rw e (mask_m (shape (kind_of r.kind)))
-
-  pub role_is_a : eqb (bits / 8 % 2) 1 && eqb p r.a ≡ true → as_a ≡ role (rec r) p
-  unfolding role
-  role_is_a h = sym (rw (← is_a, h))
-
-  module _ (not_a : eqb (bits / 8 % 2) 1 && eqb p r.a ≡ false) where
-    pub role_is_b : eqb (bits / 4 % 2) 1 && eqb p r.b ≡ true → as_b ≡ role (rec r) p
-    unfolding role
-    role_is_b h = sym (rw (← is_a, not_a, ← is_b, h))
-
-    module _ (not_b : eqb (bits / 4 % 2) 1 && eqb p r.b ≡ false) where
-      pub role_is_c : eqb (bits / 2 % 2) 1 && eqb p r.c ≡ true → as_c ≡ role (rec r) p
-      unfolding role
-      role_is_c h = sym (rw (← is_a, not_a, ← is_b, not_b, ← is_c, h))
-
-      module _ (not_c : eqb (bits / 2 % 2) 1 && eqb p r.c ≡ false) where
-        pub role_is_map : eqb (bits / 1 % 2) 1 && eqb p 0 ≡ true → as_map ≡ role (rec r) p
-        unfolding role
-        role_is_map h = sym (rw (← is_a, not_a, ← is_b, not_b, ← is_c, not_c, ← is_m, h))
-
-        pub role_is_none : eqb (bits / 1 % 2) 1 && eqb p 0 ≡ false → model.none ≡ role (rec r) p
-        unfolding role
-        role_is_none h = sym (rw (← is_a, not_a, ← is_b, not_b, ← is_c, not_c, ← is_m, h))
+pub role_is : (r : Record) (p : ℕ) (t : Parts) → as_shape t ≡ shape (kind_of r.kind)
+    → role (rec r) p ≡ first_of (t.a && eqb p r.a) (t.b && eqb p r.b) (t.c && eqb p r.c) (t.map && eqb p 0)
+unfolding role
+role_is r p t e = ap (λ (s : Shape). first_of (s.a && eqb p r.a) (s.b && eqb p r.b) (s.c && eqb p r.c) (s.m && eqb p 0)) (sym e)

@@ -5,7 +5,7 @@ pub mod lists;
 pub mod pages;
 pub mod roles;
 
-ghost use Rattle.std.specs.Prelude.{◌≡◌, [], ◌∷◌, suc, ◌≤◌, take};
+ghost use Rattle.std.specs.Prelude.{◌≡◌, [], ◌∷◌, suc, ◌≤◌, take, Some};
 ghost use Rattle.def_layout.specs.Sizes.{room};
 ghost use Rattle.def_layout.specs.Entries.{entry, top};
 ghost use Rattle.def_layout.specs.Pages.{node_at};
@@ -15,19 +15,18 @@ ghost use Rattle.law_bytes.specs.EntryBytes.{used};
 ghost use Rattle.codec_page.specs.Typed.{typed};
 ghost use Rattle.record_apply.specs.Lists.{listed};
 ghost use Rattle.record_apply.specs.Pages.{rec};
-ghost use Rattle.record_apply.specs.Roles.{role_at};
+ghost use Rattle.record_apply.specs.Roles.{as_role};
 
 use codec_page::Page;
+use def_layout::page::PageKind;
 use def_layout::{Entry, ROOM};
-use lists::{
-    EntryList, insert_key, join, link_in, remove_key, two_children, unlink_in, without_first,
-    without_last,
-};
-use pages::{cut, free_page, kind_at, mark, node, renew, with_list};
-use roles::role_of;
+use lists::{EntryList, two_children, without_first};
+use pages::{cut, free_page, mark, node, renew, with_list};
+use roles::{Role, role_of};
 
-// The numbers of a log record, but for its own, and its entries.
-#[derive(Clone, Copy)]
+// The numbers of a log record, but for its own, and its entries. The kind is a number, as 01 numbers the rows of its table: a rule of the project keeps
+// the matches on 1 to 15.
+#[derive(Clone, Copy, Debug, PartialEq, Eq, Default)]
 pub struct Record {
     pub kind: u32,
     pub count: u32,
@@ -47,36 +46,43 @@ pub struct Record {
 pub fn into_a(r: Record) -> bool
     ensures { result ≡ into_a (rec r) }
 {
-    if r.count == 0 {
-        return true;
-    }
-    r.entries[0].key <= r.key
+    r.count == 0 || r.entries[0].key <= r.key
 }
 
-// Of n entries of A those after a redistribution.
-fn share_a(r: Record, es: [Entry; ROOM], n: usize) -> EntryList
-    requires { (n ≤ room) × (r.count ≤ room) }
-    ensures { (listed result ≡ take 14 (share_in_a (into_a (rec r)) (rec r) (used n es))) × (result.count ≤ room) }
+// The entries that a record carries.
+fn carried(r: Record) -> EntryList
+    requires { r.count ≤ room }
+    ensures { (listed result ≡ used r.count r.entries) × (result.count ≡ r.count) }
 {
-    let m = r.count as usize;
-    if into_a(r) {
-        let fs = r.entries;
-        return join(es, n, fs, m);
+    let entries = r.entries;
+    EntryList {
+        count: r.count as usize,
+        entries,
     }
-    without_last(es, n, m)
+}
+
+// The entries of A after a redistribution.
+fn share_a(r: Record, es: EntryList) -> EntryList
+    requires { (es.count ≤ room) × (r.count ≤ room) }
+    ensures { (listed result ≡ take 14 (share_in_a (into_a (rec r)) (rec r) (listed es))) × (result.count ≤ room) }
+{
+    if into_a(r) {
+        es.join(carried(r))
+    } else {
+        es.without_last(r.count as usize)
+    }
 }
 
 // The same of B.
-fn share_b(r: Record, es: [Entry; ROOM], n: usize) -> EntryList
-    requires { (n ≤ room) × (r.count ≤ room) }
-    ensures { (listed result ≡ take 14 (share_in_b (into_a (rec r)) (rec r) (used n es))) × (result.count ≤ room) }
+fn share_b(r: Record, es: EntryList) -> EntryList
+    requires { (es.count ≤ room) × (r.count ≤ room) }
+    ensures { (listed result ≡ take 14 (share_in_b (into_a (rec r)) (rec r) (listed es))) × (result.count ≤ room) }
 {
-    let m = r.count as usize;
     if into_a(r) {
-        return without_first(es, n, m);
+        without_first(es.entries, es.count, r.count as usize)
+    } else {
+        carried(r).join(es)
     }
-    let fs = r.entries;
-    join(fs, m, es, n)
 }
 
 // A new page with the record's level and entries.
@@ -84,12 +90,14 @@ fn filled(r: Record, own: u32, right: u32, high: u32) -> Page
     requires { r.count ≤ room }
     ensures { typed result ≡ cut_to_size (node_at own r.level right high (used r.count r.entries)) }
 {
-    let entries = r.entries;
-    let l = EntryList {
-        count: r.count as usize,
-        entries,
-    };
-    node(kind_at(r.level), r.level, own, right, high, l)
+    node(
+        PageKind::at_level(r.level),
+        r.level,
+        own,
+        right,
+        high,
+        carried(r),
+    )
 }
 
 // The raised root: C below it on the left, B on the right.
@@ -97,7 +105,7 @@ fn raised(r: Record, own: u32) -> Page
     ensures { typed result ≡ cut_to_size (node_at own (suc r.level) 0 top (entry r.key r.c ∷ entry top r.b ∷ [])) }
 {
     let l = two_children(r.key, r.c, r.b);
-    node(2, r.level % 16 + 1, own, 0, 4294967295, l)
+    node(PageKind::Index, r.level % 16 + 1, own, 0, u32::MAX, l)
 }
 
 // What a record does to its page A.
@@ -105,20 +113,20 @@ fn change_a(r: Record, x: Page) -> Page
     requires { (x.count ≤ room) × (r.count ≤ room) }
     ensures { typed result ≡ cut_to_size (change_a (kind_of r.kind) (rec r) (typed x)) }
 {
-    let kind = r.kind;
-    let es = x.entries;
-    let n = x.count as usize;
-    let fs = r.entries;
-    let m = r.count as usize;
-    match kind {
-        2 => with_list(x, insert_key(es, n, r.key, r.second)),
-        3..=4 => with_list(x, remove_key(es, n, r.key)),
-        5 => with_list(x, insert_key(es, n, r.key, r.second)),
-        9 => renew(x, r.b, r.key, without_last(es, n, m)),
-        10 => with_list(x, link_in(es, n, r.b, r.key, r.c, r.second)),
-        11 => with_list(x, unlink_in(es, n, r.b, r.key, r.second)),
-        12 => renew(x, r.right, r.key, join(es, n, fs, m)),
-        13 => renew(x, x.right, r.key, share_a(r, es, n)),
+    let entries = x.entries;
+    let es = EntryList {
+        count: x.count as usize,
+        entries,
+    };
+    match r.kind {
+        2 => with_list(x, es.insert_key(r.key, r.second)),
+        3..=4 => with_list(x, es.remove_key(r.key)),
+        5 => with_list(x, es.insert_key(r.key, r.second)),
+        9 => renew(x, r.b, r.key, es.without_last(r.count as usize)),
+        10 => with_list(x, es.link_in(r.b, r.key, r.c, r.second)),
+        11 => with_list(x, es.unlink_in(r.b, r.key, r.second)),
+        12 => renew(x, r.right, r.key, es.join(carried(r))),
+        13 => renew(x, x.right, r.key, share_a(r, es)),
         14 => raised(r, x.own),
         15 => filled(r, x.own, 0, x.high),
         _ => cut(x),
@@ -130,13 +138,15 @@ fn change_b(r: Record, x: Page) -> Page
     requires { (x.count ≤ room) × (r.count ≤ room) }
     ensures { typed result ≡ cut_to_size (change_b (kind_of r.kind) (rec r) (typed x)) }
 {
-    let kind = r.kind;
-    let es = x.entries;
-    let n = x.count as usize;
-    match kind {
+    let entries = x.entries;
+    let es = EntryList {
+        count: x.count as usize,
+        entries,
+    };
+    match r.kind {
         9 => filled(r, r.b, r.right, r.second),
         12 => free_page(x.own),
-        13 => with_list(x, share_b(r, es, n)),
+        13 => with_list(x, share_b(r, es)),
         15 => free_page(x.own),
         _ => cut(x),
     }
@@ -147,8 +157,7 @@ fn change_map(r: Record, x: Page) -> Page
     requires { x.count ≤ room }
     ensures { typed result ≡ cut_to_size (change (rec r) as_map (typed x)) }
 {
-    let kind = r.kind;
-    match kind {
+    match r.kind {
         9 => mark(x, r.b as usize, true),
         14 => mark(x, r.c as usize, true),
         _ => mark(x, r.b as usize, false),
@@ -156,16 +165,26 @@ fn change_map(r: Record, x: Page) -> Page
 }
 
 // The change of a page that has the part.
-fn change(r: Record, role: u32, x: Page) -> Page
+fn change_part(r: Record, part: Role, x: Page) -> Page
     requires { (x.count ≤ room) × (r.count ≤ room) }
-    ensures { typed result ≡ cut_to_size (change (rec r) (role_at role) (typed x)) }
+    ensures { typed result ≡ cut_to_size (change (rec r) (as_role (Some part)) (typed x)) }
+{
+    match part {
+        Role::A => change_a(r, x),
+        Role::B => change_b(r, x),
+        Role::C => filled(r, r.c, r.b, r.key),
+        Role::Map => change_map(r, x),
+    }
+}
+
+// The same of a page that may have none.
+fn change(r: Record, role: Option<Role>, x: Page) -> Page
+    requires { (x.count ≤ room) × (r.count ≤ room) }
+    ensures { typed result ≡ cut_to_size (change (rec r) (as_role role) (typed x)) }
 {
     match role {
-        0 => cut(x),
-        1 => change_a(r, x),
-        2 => change_b(r, x),
-        3 => filled(r, r.c, r.b, r.key),
-        _ => change_map(r, x),
+        None => cut(x),
+        Some(part) => change_part(r, part, x),
     }
 }
 

@@ -1,55 +1,92 @@
 // Which pages a record changes, and what part a page has in it.
-ghost use Rattle.std.specs.Prelude.{◌≡◌, ◌&&◌, ◌/◌, ◌%◌, ◌<◌, eqb};
+ghost use Rattle.std.specs.Prelude.{◌≡◌, ◌&&◌, eqb};
 ghost use Rattle.def_layout.specs.Records.{kind_of};
 ghost use Rattle.def_model.specs.Change.{shape, role};
 ghost use Rattle.record_apply.specs.Pages.{rec};
-ghost use Rattle.record_apply.specs.Roles.{role_at, mask};
+ghost use Rattle.record_apply.specs.Roles.{as_role, as_shape};
 
 use super::Record;
 
-// Which of A, B, C and the map a kind changes, a bit each.
-pub fn parts(kind: u32) -> u32
-    ensures { result ≡ mask (shape (kind_of kind)) }
+// Which of A, B, C and the map a kind of record changes.
+#[derive(Clone, Copy, Debug, PartialEq, Eq, Default)]
+pub struct Parts {
+    pub a: bool,
+    pub b: bool,
+    pub c: bool,
+    pub map: bool,
+}
+
+// The part that a page has in a record that changes it.
+#[derive(Clone, Copy, Debug, PartialEq, Eq)]
+pub enum Role {
+    A,
+    B,
+    C,
+    Map,
+}
+
+// By the kind's number, as 01 numbers the rows of its table: a rule of the project keeps this match on 1 to 15.
+pub fn parts_of(kind: u32) -> Parts
+    ensures { as_shape result ≡ shape (kind_of kind) }
 {
+    let none = Parts::default();
     match kind {
-        2..=5 => 0b1000,
-        9 => 0b1101,
-        10..=11 => 0b1000,
-        12 => 0b1101,
-        13 => 0b1100,
-        14 => 0b1011,
-        15 => 0b1101,
-        _ => 0,
+        2..=5 => Parts { a: true, ..none },
+        9 => Parts {
+            a: true,
+            b: true,
+            map: true,
+            ..none
+        },
+        10..=11 => Parts { a: true, ..none },
+        12 => Parts {
+            a: true,
+            b: true,
+            map: true,
+            ..none
+        },
+        13 => Parts {
+            a: true,
+            b: true,
+            ..none
+        },
+        14 => Parts {
+            a: true,
+            c: true,
+            map: true,
+            ..none
+        },
+        15 => Parts {
+            a: true,
+            b: true,
+            map: true,
+            ..none
+        },
+        _ => none,
     }
 }
 
-// Whether the parts have a bit and the page is the one that stands there.
-fn has_part(parts: u32, bit: u32, a: u32, p: usize) -> bool
-    requires { 0 < bit }
-    ensures { result ≡ eqb (parts / bit % 2) 1 && eqb p a }
+// Whether the record has the part, and the page is the one that stands there.
+fn has_part(on: bool, a: u32, p: usize) -> bool
+    ensures { result ≡ (on && eqb p a) }
 {
-    if parts / bit % 2 != 1 {
-        return false;
-    }
-    p == a as usize
+    on && p == a as usize
 }
 
-// The page's part in the record: 0 none, 1 A, 2 B, 3 C, 4 the map. A page that a record names twice has its first part.
-pub fn role_of(r: Record, p: usize) -> u32
-    ensures { role_at result ≡ role (rec r) p }
+// The page's part in the record, if it has one. A page that a record names twice has its first part.
+pub fn role_of(r: Record, p: usize) -> Option<Role>
+    ensures { as_role result ≡ role (rec r) p }
 {
-    let bits = parts(r.kind);
-    if has_part(bits, 8, r.a, p) {
-        return 1;
+    let parts = parts_of(r.kind);
+    if has_part(parts.a, r.a, p) {
+        Some(Role::A)
+    } else if has_part(parts.b, r.b, p) {
+        Some(Role::B)
+    } else if has_part(parts.c, r.c, p) {
+        Some(Role::C)
+    } else if has_part(parts.map, 0, p) {
+        Some(Role::Map)
+    } else {
+        None
     }
-    if has_part(bits, 4, r.b, p) {
-        return 2;
-    }
-    if has_part(bits, 2, r.c, p) {
-        return 3;
-    }
-    if has_part(bits, 1, 0, p) {
-        return 4;
-    }
-    0
 }

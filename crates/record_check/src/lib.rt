@@ -14,7 +14,7 @@ use codec_slot::{Header, Slot, kind_number};
 use def_layout::{Entry, MOST_ENTRIES, ROOM};
 
 // 01's table, a row a kind: a bit for each field that the kind names, in the order level, batch, previous; A, B, C; key, second,
-// right; entries.
+// right; entries. The form is 01's: a match on the kinds 1 to 15 with ranges, so a kind is a number here.
 fn carried(kind: u32) -> u32
     requires { (0 < kind) × (kind < 16) }
     ensures { result ≡ mask (carries (kind_of kind)) }
@@ -39,10 +39,7 @@ fn zero_or(row: u32, bit: u32, n: u32) -> bool
     requires { 0 < bit }
     ensures { result ≡ zero_unless (eqb (row / bit % 2) 1) n }
 {
-    if row / bit % 2 == 1 {
-        return true;
-    }
-    n == 0
+    row / bit % 2 == 1 || n == 0
 }
 
 // The same of three fields in a row, the last of them at `bit`.
@@ -50,47 +47,28 @@ fn zero_three(row: u32, bit: u32, x: u32, y: u32, z: u32) -> bool
     requires { (0 < bit) × (bit ≤ page_size) }
     ensures { result ≡ three_but row bit x y z }
 {
-    if !zero_or(row, bit * 4, x) {
-        return false;
-    }
-    if !zero_or(row, bit * 2, y) {
-        return false;
-    }
-    zero_or(row, bit, z)
+    zero_or(row, bit * 4, x) && zero_or(row, bit * 2, y) && zero_or(row, bit, z)
 }
 
 // Entries where the kind has them, and at most 14.
 fn count_ok(row: u32, count: u32) -> bool
     ensures { (result ≡ zero_unless (eqb (row / 1 % 2) 1) count && leb count 14) × (result ≡ true → count ≤ room) }
 {
-    if !zero_or(row, 1, count) {
-        return false;
-    }
-    count <= MOST_ENTRIES
+    zero_or(row, 1, count) && count <= MOST_ENTRIES
 }
 
 // A key on the low side of another, up to it, or above it.
 fn on_side(low: bool, key: u32, k: u32) -> bool
     ensures { result ≡ on_side low key k }
 {
-    if low {
-        return k <= key;
-    }
-    key < k
+    if low { k <= key } else { key < k }
 }
 
 fn all_on(low: bool, es: [Entry; ROOM], n: usize, key: u32) -> bool
     requires { n ≤ room }
     ensures { result ≡ every (λ e. on_side low key e.key) (used n es) }
 {
-    let mut i = 0;
-    while i < n {
-        if !on_side(low, key, es[i].key) {
-            return false;
-        }
-        i += 1;
-    }
-    true
+    es[..n].iter().all(|e| on_side(low, key, e.key))
 }
 
 // "into A if not above key, else into B": all on one side.
@@ -98,10 +76,7 @@ fn on_one_side(es: [Entry; ROOM], n: usize, key: u32) -> bool
     requires { n ≤ room }
     ensures { result ≡ one_side key (used n es) }
 {
-    if all_on(true, es, n, key) {
-        return true;
-    }
-    all_on(false, es, n, key)
+    all_on(true, es, n, key) || all_on(false, es, n, key)
 }
 
 // Entries of a level above the leaves' have nothing above the child's ten bits.
@@ -109,10 +84,7 @@ fn level_fits(es: [Entry; ROOM], n: usize, level: u32) -> bool
     requires { n ≤ room }
     ensures { result ≡ level_bits level (used n es) }
 {
-    if level == 0 {
-        return true;
-    }
-    children_fit(es, n)
+    level == 0 || children_fit(es, n)
 }
 
 // "A root", and the level's entries.
@@ -120,10 +92,7 @@ fn at_root(a: u32, level: u32, es: [Entry; ROOM], n: usize) -> bool
     requires { n ≤ room }
     ensures { result ≡ eqb a 1 && level_bits level (used n es) }
 {
-    if a != 1 {
-        return false;
-    }
-    level_fits(es, n, level)
+    a == 1 && level_fits(es, n, level)
 }
 
 // What a row says within itself: "batch = own number" (1), "A root" (14, 15), a redistribution's side (13), children of ten bits.
@@ -194,21 +163,7 @@ pub fn pages_ok(s: Slot, n: usize) -> bool
     ensures { result ≡ pages_kept n s.header }
 {
     let header = s.header;
-    let Header::Full {
-        kind: _,
-        count: _,
-        level: _,
-        own: _,
-        batch: _,
-        previous: _,
-        a,
-        b,
-        c,
-        key: _,
-        second: _,
-        right: _,
-    } = header
-    else {
+    let Header::Full { a, b, c, .. } = header else {
         return false;
     };
     if a as usize >= n {

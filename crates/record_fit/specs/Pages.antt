@@ -7,14 +7,18 @@ use Rattle.std.proofs.Math.Dec.{eqb}
 use Rattle.def_base.specs.Tests.{neq_false}
 use Rattle.def_layout.specs.declared.Entry.{Entry}
 use Rattle.def_layout.specs.Entries.{entry_at, look, same_entries}
-use Rattle.def_layout.specs.Pages.{PageKind, free, page_kind, kind_is, kind_at}
+use denote.Enum.Bare.{sameb}
+use Rattle.def_layout.specs.contracts.page.PageKind.{the_type}
+use Rattle.def_layout.specs.Pages.{kind_is, kind_at}
+use Rattle.def_layout.specs.declared.page.PageKind.{PageKind}
+use Rattle.def_layout.specs.declared.page.PageKind.TheVariants.{Free, Leaf, Index}
 use Rattle.def_layout.specs.Records.{insert, delete, undo_insert, undo_delete, split, link, unlink, merge, raise, lower}
 use Rattle.law_bytes.specs.Tables.{tab_length}
 use Rattle.law_bytes.specs.EntryBytes.{used}
 use Rattle.codec_entries.specs.Arrays.{used_take}
 use Rattle.codec_page.specs.declared.Page as program
 use Rattle.codec_page.specs.Typed.{typed}
-use Rattle.law_bytes.specs.PageKinds.{kind_tested}
+use Rattle.law_bytes.specs.PageKinds.{same_kind}
 use Rattle.def_model.specs.Fit.{found, found_value, nowhere, in_order, last_key_is, link_fits, side_by_side, is_leaf, is_index, is_node, at_level, children_in, fits_a, fits_b}
 use Rattle.record_apply.specs.declared.Record.{Record}
 use Rattle.record_apply.specs.Pages.{rec}
@@ -22,26 +26,26 @@ use Rattle.record_apply.specs.Pages.{rec}
 -- ---- kinds
 
 module _ (x : program.Page) where
-  pub leaf_is : eqb x.kind 1 ≡ is_leaf (typed x)
-  unfolding typed page_kind
-  leaf_is = kind_tested x.kind 1 (omega arith)
-
-  pub index_is : eqb x.kind 2 ≡ is_index (typed x)
-  unfolding typed page_kind
-  index_is = kind_tested x.kind 2 (omega arith)
-
-  pub free_is : eqb x.kind 0 ≡ kind_is (typed x).kind free
-  unfolding typed page_kind
-  free_is = kind_tested x.kind 0 (omega arith)
-
-  pub level_is : (k l : ℕ) (t : Bool) → page_kind k ≡ kind_at l → k < 3 → t ≡ eqb x.kind k && eqb x.level l → t ≡ at_level l (typed x)
+  pub leaf_is : sameb the_type x.kind Leaf ≡ is_leaf (typed x)
   unfolding typed
-  level_is k l t e h p = p ∙ ap (λ (b : Bool). b && eqb x.level l) (kind_tested x.kind k h ∙ ap (λ (q : PageKind). kind_is (page_kind x.kind) q) e)
+  leaf_is = same_kind x.kind Leaf
 
-  pub next_level_is : (l : ℕ) (t b : Bool) → b ≡ eqb x.level (suc l) → t ≡ eqb x.kind 2 && b → t ≡ at_level (suc l) (typed x)
-  unfolding typed page_kind
+  pub index_is : sameb the_type x.kind Index ≡ is_index (typed x)
+  unfolding typed
+  index_is = same_kind x.kind Index
+
+  pub free_is : sameb the_type x.kind Free ≡ kind_is (typed x).kind Free
+  unfolding typed
+  free_is = same_kind x.kind Free
+
+  pub level_is : (k : PageKind) (l : ℕ) (t : Bool) → k ≡ kind_at l → t ≡ sameb the_type x.kind k && eqb x.level l → t ≡ at_level l (typed x)
+  unfolding typed
+  level_is k l t e p = p ∙ ap (λ (b : Bool). b && eqb x.level l) (same_kind x.kind k ∙ ap (kind_is x.kind) e)
+
+  pub next_level_is : (l : ℕ) (t b : Bool) → b ≡ eqb x.level (suc l) → t ≡ is_index (typed x) && b → t ≡ at_level (suc l) (typed x)
+  unfolding typed
   next_level_is l t b e p =
-      p ∙ ap₂ (λ (a c : Bool). a && c) (kind_tested x.kind 2 (omega arith)) e
+      p ∙ ap (λ (c : Bool). kind_is x.kind Index && c) e
       ∙ sym (rw (neq_false (λ (o : suc l ≡ 0). omega arith)))
 
   pub right_is : (typed x).right ≡ x.right

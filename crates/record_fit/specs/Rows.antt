@@ -1,5 +1,5 @@
 -- The judgement of a page by its part in the record and by the record's kind.
-use Rattle.std.specs.Prelude.{◌≡◌, refl, ℕ, ◌<◌, ◌≤◌, Bool, length}
+use Rattle.std.specs.Prelude.{◌≡◌, ◌≢◌, refl, ℕ, ◌<◌, ◌≤◌, Bool, length, Option}
 use Rattle.std.proofs.Math.Path.{ap, sym, subst}
 use Rattle.std.proofs.Common.{◌∙◌}
 use native.Mathlib.Omega.{arith}
@@ -8,18 +8,22 @@ use Rattle.std.proofs.Math.Bool.{true, false, not}
 use mathlib.Core.List.{List, []}
 use Rattle.std.proofs.Math.ListN.{get_or-eq_default}
 use Rattle.def_base.specs.Tests.{pick}
-use Rattle.def_layout.specs.Pages.{free, kind_is, map_bits}
+use Rattle.def_layout.specs.Pages.{map_bits}
+use Rattle.def_layout.specs.declared.Entry.{Entry}
+use Rattle.def_layout.specs.declared.page.PageKind.{PageKind}
+use Rattle.def_layout.specs.declared.page.PageKind.TheVariants.{Map}
 use Rattle.def_layout.specs.Records.{Kind, kind_of}
 use Rattle.law_bytes.specs.Tables.{tab_length, getD_tab}
 use Rattle.law_bytes.specs.Ranges.{past}
 use Rattle.codec_page.specs.declared.Page as program
-use Rattle.codec_page.specs.Typed.{typed, map_mark, used_marks_node, used_marks_map}
+use Rattle.codec_page.specs.Typed.{typed, map_mark, used_marks, used_marks_node}
 use Rattle.codec_map.specs.Turns.{marks}
 use Rattle.def_model.specs.Change.{Role, role, as_map, shape, takes}
 use Rattle.def_model.specs.Fit.{fits_a, fits_b, fits_map, fits_role, fits}
 use Rattle.record_apply.specs.declared.Record.{Record}
+use Rattle.record_apply.specs.declared.roles.Role as part
 use Rattle.record_apply.specs.Pages.{rec}
-use Rattle.record_apply.specs.Roles.{but_b, but_marks, role_at, role_map, quiet_low, quiet_mid, quiet_past}
+use Rattle.record_apply.specs.Roles.{but_b, but_marks, as_role, quiet_low, quiet_mid, quiet_past}
 
 -- ---- marks
 
@@ -33,27 +37,25 @@ unfolding fits_map
 map_past true q m h = ap not (get_or-eq_default m true {n = q} h)
 map_past false q m h = get_or-eq_default m false {n = q} h
 
-module _ (x : program.Page) (q : ℕ) (b : Bool) where
-  marks_map : 3 ≤ x.kind → (typed x).marks ≡ marks x.entries
-  unfolding typed
-  marks_map k = used_marks_map x.entries x.kind k
+pub marks_map : (x : program.Page) → x.kind ≡ Map → (typed x).marks ≡ marks x.entries
+unfolding typed used_marks
+marks_map x k = ap (λ (l : PageKind). used_marks l x.entries) k
 
-  pub mark_node : x.kind < 3 → false ≡ fits_map b q (typed x).marks
-  unfolding typed
-  mark_node k = sym (ap (λ (m : List Bool). fits_map b q m) (used_marks_node x.entries x.kind k) ∙ map_none b q)
+pub mark_node : (x : program.Page) (q : ℕ) (b : Bool) → x.kind ≢ Map → false ≡ fits_map b q (typed x).marks
+unfolding typed
+mark_node x q b k = sym (ap (λ (m : List Bool). fits_map b q m) (used_marks_node x.entries x.kind k) ∙ map_none b q)
 
-  pub mark_past : 3 ≤ x.kind → 896 ≤ q → false ≡ fits_map b q (typed x).marks
-  mark_past k h =
-      sym (ap (λ (m : List Bool). fits_map b q m) (marks_map k) ∙ map_past b q (marks x.entries) (omega (arith, tab_length map_bits (map_mark x.entries))))
+module _ (es : List Entry) (q : ℕ) (b : Bool) where
+  pub mark_past : 896 ≤ q → false ≡ fits_map b q (marks es)
+  mark_past h = sym (map_past b q (marks es) (omega (arith, tab_length map_bits (map_mark es))))
 
-  pub mark_taken : 3 ≤ x.kind → q < 896 → b ≡ true → (u : Bool) → u ≡ map_mark x.entries q → not u ≡ fits_map b q (typed x).marks
+  pub mark_taken : q < 896 → b ≡ true → (u : Bool) → u ≡ map_mark es q → not u ≡ fits_map b q (marks es)
   unfolding fits_map
-  mark_taken k h e u p =
-      sym (rw (e, marks_map k) (ap not (getD_tab map_bits q (map_mark x.entries) true h ∙ sym p)))
+  mark_taken h e u p = sym (rw e (ap not (getD_tab map_bits q (map_mark es) true h ∙ sym p)))
 
-  pub mark_freed : 3 ≤ x.kind → q < 896 → b ≡ false → (u : Bool) → u ≡ map_mark x.entries q → u ≡ fits_map b q (typed x).marks
+  pub mark_freed : q < 896 → b ≡ false → (u : Bool) → u ≡ map_mark es q → u ≡ fits_map b q (marks es)
   unfolding fits_map
-  mark_freed k h e u p = sym (rw (e, marks_map k) (getD_tab map_bits q (map_mark x.entries) false h ∙ sym p))
+  mark_freed h e u p = sym (rw e (getD_tab map_bits q (map_mark es) false h ∙ sym p))
 
 -- ---- by kind and by part
 
@@ -107,25 +109,5 @@ module _ (r : Record) (x : program.Page) (t : Bool) where
   unfolding fits_role
   map_other n9 n14 e = but_marks FM r.kind (e, e, e, e, e, e, e, e, e, e, e, e, e) n9 n14
 
-  module _ (p o : ℕ) (part : role_at o ≡ role (rec r) p) where
-    by_part : t ≡ fits_role (rec r) (role_at o) (typed x) → t ≡ fits p (rec r) (typed x)
-    by_part e = e ∙ ap (λ (q : Role). fits_role (rec r) q (typed x)) part
-
-    pub part_none : o ≡ 0 → t ≡ true → t ≡ fits p (rec r) (typed x)
-    unfolding fits_role role_at
-    part_none k e = by_part (e ∙ ap (λ (n : ℕ). fits_role (rec r) (role_at n) (typed x)) (sym k))
-
-    pub part_a : o ≡ 1 → FA (kind_of r.kind) → t ≡ fits p (rec r) (typed x)
-    unfolding fits_role role_at
-    part_a k e = by_part (e ∙ ap (λ (n : ℕ). fits_role (rec r) (role_at n) (typed x)) (sym k))
-
-    pub part_b : o ≡ 2 → FB (kind_of r.kind) → t ≡ fits p (rec r) (typed x)
-    unfolding fits_role role_at
-    part_b k e = by_part (e ∙ ap (λ (n : ℕ). fits_role (rec r) (role_at n) (typed x)) (sym k))
-
-    pub part_c : o ≡ 3 → t ≡ kind_is (typed x).kind free → t ≡ fits p (rec r) (typed x)
-    unfolding fits_role role_at
-    part_c k e = by_part (e ∙ ap (λ (n : ℕ). fits_role (rec r) (role_at n) (typed x)) (sym k))
-
-    pub part_map : 4 ≤ o → t ≡ fits_role (rec r) as_map (typed x) → t ≡ fits p (rec r) (typed x)
-    part_map k e = by_part (e ∙ ap (λ (q : Role). fits_role (rec r) q (typed x)) (sym (role_map o k)))
+  pub by_part : (p : ℕ) (o : Option part.Role) → as_role o ≡ role (rec r) p → t ≡ fits_role (rec r) (as_role o) (typed x) → t ≡ fits p (rec r) (typed x)
+  by_part p o part e = e ∙ ap (λ (q : Role). fits_role (rec r) q (typed x)) part

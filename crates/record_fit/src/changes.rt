@@ -9,7 +9,7 @@ ghost use Rattle.codec_page.specs.Typed.{typed};
 ghost use Rattle.record_apply.specs.Pages.{rec};
 
 use super::entries::{
-    ends_with, in_order, last_joined, last_key_is, less, link_fits, side_by_side, starts_with,
+    ends_with, in_order, last_joined, last_key_is, link_fits, side_by_side, starts_with,
 };
 use super::pages::{above_level, at_level, both, children_in, has_room, is_index, is_node};
 use codec_entries::{entry_in, same_list};
@@ -24,7 +24,7 @@ pub fn split_fits(r: Record, x: Page, n: usize) -> bool
     let es = x.entries;
     let fs = r.entries;
     let m = r.count as usize;
-    let k = less(n, m);
+    let k = n.saturating_sub(m);
     let level = at_level(x, r.level);
     let ends = ends_with(es, n, fs, m);
     let last = last_key_is(es, k, r.key);
@@ -94,7 +94,7 @@ fn share_a_fits(r: Record, x: Page, n: usize) -> bool
         let tail = both(rising, children_in(x, fs, m));
         return both(room, both(last, tail));
     }
-    let k = less(n, m);
+    let k = n.saturating_sub(m);
     let ends = ends_with(es, n, fs, m);
     both(ends, last_key_is(es, k, r.key))
 }

@@ -1,5 +1,5 @@
 // Tests on lists of entries: by the search, by all of them, by their ends, and by place.
-ghost use Rattle.std.specs.Prelude.{◌≡◌, ◌++◌, ◌-◌, ◌≤◌, min, take, drop, leb};
+ghost use Rattle.std.specs.Prelude.{◌≡◌, ◌++◌, ◌-◌, ◌≤◌, take, drop, leb};
 ghost use Rattle.def_layout.specs.Sizes.{room};
 ghost use Rattle.def_layout.specs.Entries.{look, same_entries};
 ghost use Rattle.def_model.specs.Fit.{found, found_value, after, nowhere, in_order, last_key_is, link_fits, side_by_side};
@@ -8,25 +8,6 @@ ghost use Rattle.law_bytes.specs.EntryBytes.{used};
 use super::pages::both;
 use codec_entries::{find, same_list, upper_part};
 use def_layout::{Entry, ROOM};
-
-// n - m, or 0.
-pub fn less(n: usize, m: usize) -> usize
-    ensures { result ≡ n - m }
-{
-    if m < n {
-        return n - m;
-    }
-    0
-}
-
-fn least(m: usize, n: usize) -> usize
-    ensures { (result ≡ min m n) × (result ≤ n) }
-{
-    if m < n {
-        return m;
-    }
-    n
-}
 
 pub fn has_key(es: [Entry; ROOM], n: usize, k: u32) -> bool
     requires { n ≤ room }
@@ -61,12 +42,10 @@ pub fn nowhere(es: [Entry; ROOM], n: usize, k: u32) -> bool
     requires { n ≤ room }
     ensures { result ≡ nowhere k (used n es) }
 {
-    let mut i = 0;
-    while i < n {
+    for i in 0..n {
         if es[i].key == k {
             return false;
         }
-        i += 1;
     }
     true
 }
@@ -118,7 +97,7 @@ pub fn ends_with(es: [Entry; ROOM], n: usize, fs: [Entry; ROOM], m: usize) -> bo
     requires { (n ≤ room) × (m ≤ room) }
     ensures { result ≡ same_entries (drop (n - m) (used n es)) (used m fs) }
 {
-    let k = less(n, m);
+    let k = n.saturating_sub(m);
     let gs = upper_part(es, n, k);
     same_list(gs, n - k, fs, m)
 }
@@ -127,7 +106,7 @@ pub fn starts_with(es: [Entry; ROOM], n: usize, fs: [Entry; ROOM], m: usize) -> 
     requires { (n ≤ room) × (m ≤ room) }
     ensures { result ≡ same_entries (take m (used n es)) (used m fs) }
 {
-    let k = least(m, n);
+    let k = m.min(n);
     same_list(es, k, fs, m)
 }
 

@@ -6,48 +6,53 @@ mod entries;
 mod pages;
 mod slides;
 
-ghost use Rattle.std.specs.Prelude.{◌≡◌, ◌≤◌};
+ghost use Rattle.std.specs.Prelude.{◌≡◌, ◌≤◌, Some};
 ghost use Rattle.def_layout.specs.Sizes.{room};
 ghost use Rattle.def_layout.specs.Records.{kind_of};
 ghost use Rattle.def_model.specs.Change.{as_map};
 ghost use Rattle.def_model.specs.Fit.{fits_a, fits_b, fits_map, fits_role, fits};
 ghost use Rattle.codec_page.specs.Typed.{typed};
+ghost use Rattle.codec_map.specs.Turns.{marks};
 ghost use Rattle.record_apply.specs.Pages.{rec};
+ghost use Rattle.record_apply.specs.Roles.{as_role};
 
 use changes::{
     link_row_fits, lower_b_fits, lower_fits, merge_b_fits, merge_fits, raise_fits,
     redistribute_b_fits, redistribute_fits, split_fits, unlink_fits,
 };
 use codec_page::{Page, marked, size_of};
-use def_layout::MOST_PAGES;
+use def_layout::page::PageKind;
+use def_layout::{Entry, MOST_PAGES, ROOM};
 use pages::is_free;
 use record_apply::Record;
-use record_apply::roles::role_of;
+use record_apply::roles::{Role, role_of};
 use slides::{delete_fits, insert_fits, undo_insert_fits};
 
-// The bit of the page taken is clear, of the page freed set.
-fn mark_fits(x: Page, q: usize, taken: bool) -> bool
-    ensures { result ≡ fits_map taken q (typed x).marks }
+// Of the map's words, whether the bit of the page taken is clear, or of the page freed set.
+fn bit_fits(es: [Entry; ROOM], q: usize, taken: bool) -> bool
+    ensures { result ≡ fits_map taken q (marks es) }
 {
-    if x.kind < 3 {
-        return false;
-    }
     if q >= MOST_PAGES {
         return false;
     }
-    let es = x.entries;
     let used = marked(es, q);
-    if taken {
-        return !used;
+    if taken { !used } else { used }
+}
+
+fn mark_fits(x: Page, q: usize, taken: bool) -> bool
+    ensures { result ≡ fits_map taken q (typed x).marks }
+{
+    let es = x.entries;
+    match x.kind {
+        PageKind::Map => bit_fits(es, q, taken),
+        _ => false,
     }
-    used
 }
 
 fn map_fits(r: Record, x: Page) -> bool
     ensures { result ≡ fits_role (rec r) as_map (typed x) }
 {
-    let kind = r.kind;
-    match kind {
+    match r.kind {
         9 => mark_fits(x, r.b as usize, true),
         14 => mark_fits(x, r.c as usize, true),
         _ => mark_fits(x, r.b as usize, false),
@@ -59,9 +64,8 @@ fn fits_a(r: Record, x: Page) -> bool
     requires { (x.count ≤ room) × (r.count ≤ room) }
     ensures { result ≡ fits_a (kind_of r.kind) (rec r) (typed x) }
 {
-    let kind = r.kind;
     let n = size_of(x);
-    match kind {
+    match r.kind {
         2 => insert_fits(r, x, n),
         3 => delete_fits(r, x, n),
         4 => undo_insert_fits(r, x, n),
@@ -82,9 +86,8 @@ fn fits_b(r: Record, x: Page) -> bool
     requires { (x.count ≤ room) × (r.count ≤ room) }
     ensures { result ≡ fits_b (kind_of r.kind) (rec r) (typed x) }
 {
-    let kind = r.kind;
     let n = size_of(x);
-    match kind {
+    match r.kind {
         9 => is_free(x),
         12 => merge_b_fits(r, x, n),
         13 => redistribute_b_fits(r, x, n),
@@ -93,17 +96,26 @@ fn fits_b(r: Record, x: Page) -> bool
     }
 }
 
+// A page that has the part.
+fn part_fits(r: Record, part: Role, x: Page) -> bool
+    requires { (x.count ≤ room) × (r.count ≤ room) }
+    ensures { result ≡ fits_role (rec r) (as_role (Some part)) (typed x) }
+{
+    match part {
+        Role::A => fits_a(r, x),
+        Role::B => fits_b(r, x),
+        Role::C => is_free(x),
+        Role::Map => map_fits(r, x),
+    }
+}
+
 // Page p, judged by the record: whether the change starts from it.
 pub fn fits(r: Record, p: usize, x: Page) -> bool
     requires { (x.count ≤ room) × (r.count ≤ room) }
     ensures { result ≡ fits p (rec r) (typed x) }
 {
-    let role = role_of(r, p);
-    match role {
-        0 => true,
-        1 => fits_a(r, x),
-        2 => fits_b(r, x),
-        3 => is_free(x),
-        _ => map_fits(r, x),
+    match role_of(r, p) {
+        None => true,
+        Some(part) => part_fits(r, part, x),
     }
 }

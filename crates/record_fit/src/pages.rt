@@ -1,7 +1,8 @@
 // Tests on a page as a whole: its kind, its level, its room, and what may stand in it.
 ghost use Rattle.std.specs.Prelude.{◌≡◌, suc, ◌+◌, ◌≤◌, eqb, leb};
 ghost use Rattle.def_layout.specs.Sizes.{room};
-ghost use Rattle.def_layout.specs.Pages.{kind_is, free};
+ghost use Rattle.def_layout.specs.Pages.{kind_is};
+ghost use Rattle.def_layout.specs.declared.page.PageKind.TheVariants.{Free};
 ghost use Rattle.def_model.specs.Fit.{is_leaf, is_index, is_node, at_level, children_in};
 ghost use Rattle.law_bytes.specs.EntryBytes.{used};
 ghost use Rattle.codec_page.specs.Typed.{typed};
@@ -9,8 +10,8 @@ ghost use Rattle.record_fit.specs.Tests.{also};
 
 use codec_entries::children_fit;
 use codec_page::Page;
+use def_layout::page::PageKind;
 use def_layout::{Entry, ROOM};
-use record_apply::pages::kind_at;
 
 pub fn both(a: bool, b: bool) -> bool
     ensures { result ≡ also a b }
@@ -24,19 +25,19 @@ pub fn both(a: bool, b: bool) -> bool
 pub fn is_leaf(x: Page) -> bool
     ensures { result ≡ is_leaf (typed x) }
 {
-    x.kind == 1
+    x.kind == PageKind::Leaf
 }
 
 pub fn is_index(x: Page) -> bool
     ensures { result ≡ is_index (typed x) }
 {
-    x.kind == 2
+    x.kind == PageKind::Index
 }
 
 pub fn is_free(x: Page) -> bool
-    ensures { result ≡ kind_is (typed x).kind free }
+    ensures { result ≡ kind_is (typed x).kind Free }
 {
-    x.kind == 0
+    x.kind == PageKind::Free
 }
 
 pub fn is_node(x: Page) -> bool
@@ -51,8 +52,8 @@ pub fn is_node(x: Page) -> bool
 pub fn at_level(x: Page, level: u32) -> bool
     ensures { result ≡ at_level level (typed x) }
 {
-    let k = kind_at(level);
-    both(x.kind == k, x.level == level)
+    let same = x.kind == PageKind::at_level(level);
+    both(same, x.level == level)
 }
 
 fn is_next(a: u32, level: u32) -> bool
@@ -68,7 +69,8 @@ fn is_next(a: u32, level: u32) -> bool
 pub fn above_level(x: Page, level: u32) -> bool
     ensures { result ≡ at_level (suc level) (typed x) }
 {
-    both(x.kind == 2, is_next(x.level, level))
+    let index = is_index(x);
+    both(index, is_next(x.level, level))
 }
 
 pub fn has_room(n: usize, m: usize) -> bool

@@ -4,12 +4,14 @@ use Rattle.std.proofs.Math.Path.{ap, ap₂, sym, subst}
 use Rattle.std.proofs.Common.{◌∙◌, mod-lt, length-append, length-drop, length-take-le, get_or-take, get_or-drop, get_or-append-add, lit<}
 use Rattle.std.proofs.Math.Nat.{mod-eq_of_lt}
 use native.Mathlib.Omega.{arith}
-use mathlib.Core.List.{List, [], ◌∷◌, ◌++◌, append_assoc}
+use mathlib.Core.List.{List, ◌∷◌, ◌++◌, append_assoc}
 use Rattle.std.proofs.Math.ListN.{length, get_or-append, get_or-eq_default}
 use Rattle.std.proofs.Math.Seq.{take_all}
 use Rattle.def_base.specs.Tests.{and_both, le_true, eq_true}
 use Rattle.def_layout.specs.declared.Entry.{Entry}
-use Rattle.def_layout.specs.Pages.{Page, PageKind, leaf, page_kind, page_kind_number, kind_is}
+use Rattle.def_layout.specs.Pages.{Page, page_kind, page_kind_number, kind_is}
+use Rattle.def_layout.specs.declared.page.PageKind.{PageKind}
+use Rattle.def_layout.specs.declared.page.PageKind.TheVariants.{Leaf}
 use Rattle.def_layout.specs.Entries.{entry, entry_at, key_at, no_entry, place, look, insert_sorted, remove_key}
 use Rattle.def_layout.specs.Numbers.{be32, put32, tab, chunks, read_entry, entry_bytes, entries_bytes}
 use Rattle.def_layout.specs.PageBytes.{page_front, page_body, page_bytes, page_fields, read_entries}
@@ -20,7 +22,7 @@ use Rattle.law_bytes.specs.Words.{part}
 use Rattle.law_bytes.specs.Patch.{patch}
 use Rattle.law_bytes.specs.Chunks.{chunks_same}
 use Rattle.law_bytes.specs.EntryBytes.{used, used_in}
-use Rattle.law_bytes.specs.PageKinds.{kind_back, kind_lt}
+use Rattle.law_bytes.specs.PageKinds.{kind_back}
 use Rattle.law_bytes.specs.PageBytes.{front_word, page_front_length, word_0, page_fields_back, Fits, NodeFits, BodyFits}
 use Rattle.codec_entries.specs.Places.{insert_sorted_place, remove_key_place, look_here}
 use Rattle.record_leaf.specs.Keys.{shown, used_shown}
@@ -76,7 +78,7 @@ module _ (b : List ℕ) (x : Page) (eb : b ≡ page_bytes x) (f : Fits x) (kind 
   bounds : (x.level % 16 < 16) × ((length x.entries % 16 < 16) × (x.right % 1024 < 1024))
   bounds = (mod-lt x.level (lit< tt), (mod-lt (length x.entries) (lit< tt), mod-lt x.right (lit< tt)))
 
-  pub is_a_leaf : x.kind ≡ leaf
+  pub is_a_leaf : x.kind ≡ Leaf
   unfolding page_kind
   is_a_leaf =
       let n : page_kind_number x.kind ≡ 1 = omega (arith, word, kind, bounds) in
@@ -222,7 +224,7 @@ filed own k v b₀ m i b s t ew kind em room none ei h e₁ et x r eb f ek ev =
     let at : i ≡ place k x.entries = ei ∙ ap (place k) shows in
     let list : insert_sorted r.key r.second x.entries ≡ take i x.entries ++ entry k v ∷ drop i x.entries =
     rw (ek, ev) (insert_sorted_place k v x.entries) ∙ ap (λ (j : ℕ). take j x.entries ++ entry k v ∷ drop j x.entries) (sym at) in (
-      and_both (ap (λ (j : PageKind). kind_is j leaf) (is_a_leaf b x eb f kind'))
+      and_both (ap (λ (j : PageKind). kind_is j Leaf) (is_a_leaf b x eb f kind'))
           (and_both (le_true (length x.entries + 1) 14 (omega arith)) (ap (λ (j : ℕ). nowhere j x.entries) ek ∙ ap (nowhere k) (sym shows) ∙ none)),
       filed_written b x eb f kind' k v i own s t (omega arith) (omega arith)
           (e₁ ∙ ap (λ (j : ℕ). patch b (16 + 8 * i) (put32 k ++ put32 v ++ part b (16 + 8 * i) (8 * (j - i)))) count)
@@ -248,7 +250,7 @@ struck own k v b₀ m i b s t ew kind em ei h key val few e₁ et x r eb f ek ev
     let val' : (entry_at x.entries (place k x.entries)).val ≡ v = ap (λ (j : ℕ). (entry_at x.entries j).val) (sym at) ∙ ap (λ (e : Entry). e.val) here ∙ val in
     let list : remove_key r.key x.entries ≡ take i x.entries ++ drop (i + 1) x.entries =
     ap (λ (j : ℕ). remove_key j x.entries) ek ∙ remove_key_place k x.entries there key' ∙ ap (λ (j : ℕ). take j x.entries ++ drop (j + 1) x.entries) (sym at) in (
-      and_both (ap (λ (j : PageKind). kind_is j leaf) (is_a_leaf b x eb f kind'))
+      and_both (ap (λ (j : PageKind). kind_is j Leaf) (is_a_leaf b x eb f kind'))
           (ap₂ (λ (w j : ℕ). found_value w (look j x.entries)) ev ek ∙ ap (found_value v) (look_here k x.entries there key') ∙ eq_true _ v val'),
       struck_written b x eb f kind' i own s t (omega arith)
           (e₁ ∙ ap (λ (j : ℕ). patch b (16 + 8 * i) (part b (24 + 8 * i) (8 * (j - 1 - i)) ++ put32 0 ++ put32 0)) count)

@@ -1,5 +1,5 @@
 -- An area that shows typed pages, and a page of it by value.
-use Rattle.std.specs.Prelude.{◌≡◌, ℕ, suc, ◌*◌, ◌<◌, ◌≤◌, set}
+use Rattle.std.specs.Prelude.{◌≡◌, ◌≢◌, ℕ, suc, ◌*◌, ◌<◌, ◌≤◌, min, set}
 use Rattle.std.proofs.Math.Path.{ap, sym}
 use Rattle.std.proofs.Common.{◌∙◌, subst, arith, length-set}
 use mathlib.Core.List.{List, [], ◌∷◌, map}
@@ -7,7 +7,9 @@ use Rattle.std.proofs.Math.ListN.{length}
 use Rattle.std.proofs.Math.Seq.{set_out}
 use Rattle.def_layout.specs.declared.Entry.{Entry}
 use Rattle.def_layout.specs.Entries.{entry_at}
-use Rattle.def_layout.specs.Pages.{Page, page_kind, at}
+use Rattle.def_layout.specs.Pages.{Page, at}
+use Rattle.def_layout.specs.declared.page.PageKind.{PageKind}
+use Rattle.def_layout.specs.declared.page.PageKind.TheVariants.{Map}
 use Rattle.def_layout.specs.PageBytes.{page, page_bytes}
 use Rattle.def_model.specs.OnBytes.{work_bytes}
 use Rattle.def_layout.specs.Sizes.{page_size}
@@ -16,7 +18,7 @@ use Rattle.law_bytes.specs.Patch.{patch}
 use Rattle.law_bytes.specs.Tables.{tab_length}
 use Rattle.law_bytes.specs.EntryBytes.{used}
 use Rattle.codec_page.specs.declared.Page as program
-use Rattle.codec_page.specs.Typed.{typed, used_entries_node, used_entries_map}
+use Rattle.codec_page.specs.Typed.{typed, used_entries, used_entries_node}
 use Rattle.law_bytes.specs.PageBytes.{Fits, fits_count}
 use Rattle.law_bytes.specs.PageAreas.{pages_of, pages_bytes}
 use Rattle.law_areas.specs.Pages.{AllPagesFit, fits_past, fits_set}
@@ -46,7 +48,7 @@ pub reads_count : {x : program.Page} {y : Page} → Reads x y → x.count ≡ le
 reads_count {x} {y} h = sym (tab_length x.count (entry_at x.entries)) ∙ ap length h.list
 
 -- The page read, with another count.
-abbrev with_count : ℕ → program.Page → program.Page
+abbrev pub with_count : ℕ → program.Page → program.Page
 with_count n x =
     record { kind = x.kind; level = x.level; count = n; right = x.right; high = x.high; lsn = x.lsn; own = x.own; entries = x.entries }
 
@@ -55,28 +57,22 @@ module _ {n : ℕ} {area : List ℕ} (p : ℕ) (x : program.Page) (shown : typed
   at_shown h = shown ∙ ap (λ (l : List Page). at l p) (pages_shown h)
 
   -- The map has no entries, whatever its count says.
-  pub reads_map : 3 ≤ x.kind → (xs : List Page) (ls : List ℕ) → Pages n area xs ls → Reads (with_count 0 x) (at xs p)
-  unfolding typed tab
+  pub reads_map : x.kind ≡ Map → (xs : List Page) (ls : List ℕ) → Pages n area xs ls → Reads (with_count 0 x) (at xs p)
+  unfolding typed tab used_entries
   reads_map k xs ls h =
+      let none : (m : ℕ) → used_entries x.kind m x.entries ≡ [] = λ m. ap (λ (q : PageKind). used_entries q m x.entries) k in
       record {
-        is = ap (λ (l : List Entry). record { kind = page_kind x.kind; level = x.level; right = x.right; high = x.high; lsn = x.lsn; own = x.own; entries = l; marks = (typed x).marks }) (used_entries_map 0 x.entries x.kind k ∙ sym (used_entries_map x.count x.entries x.kind k)) ∙ at_shown h;
-        list = sym (used_entries_map x.count x.entries x.kind k) ∙ ap (λ (y : Page). y.entries) (at_shown h);
+        is = ap (λ (l : List Entry). record { kind = x.kind; level = x.level; right = x.right; high = x.high; lsn = x.lsn; own = x.own; entries = l; marks = (typed x).marks }) (none 0 ∙ sym (none x.count)) ∙ at_shown h;
+        list = sym (none x.count) ∙ ap (λ (y : Page). y.entries) (at_shown h);
       }
 
-  -- No page of the list has more than 14.
-  pub reads_many : x.kind < 3 → 14 < x.count → (xs : List Page) (ls : List ℕ) → Pages n area xs ls → Reads (with_count 14 x) (at xs p)
-  unfolding typed
-  reads_many k c xs ls h =
-      let e : used x.count x.entries ≡ (at xs p).entries = sym (used_entries_node x.count x.entries x.kind k) ∙ ap (λ (y : Page). y.entries) (at_shown h) in
-      absurd (omega (arith, fits_count (at xs p) (fits_past xs h.fits p), ap length e, tab_length x.count (entry_at x.entries)))
-
-  pub reads_node : x.kind < 3 → (xs : List Page) (ls : List ℕ) → Pages n area xs ls → Reads x (at xs p)
+  -- No other page of the list has more than 14.
+  pub reads_node : x.kind ≢ Map → (xs : List Page) (ls : List ℕ) → Pages n area xs ls → Reads (with_count (min 14 x.count) x) (at xs p)
   unfolding typed
   reads_node k xs ls h =
-      record {
-        is = at_shown h;
-        list = sym (used_entries_node x.count x.entries x.kind k) ∙ ap (λ (y : Page). y.entries) (at_shown h);
-      }
+      let e : used x.count x.entries ≡ (at xs p).entries = sym (used_entries_node x.count x.entries x.kind k) ∙ ap (λ (y : Page). y.entries) (at_shown h) in
+      let few : x.count ≡ min 14 x.count = omega (arith, fits_count (at xs p) (fits_past xs h.fits p), ap length e, tab_length x.count (entry_at x.entries)) in
+      subst (λ (m : ℕ). Reads (with_count m x) (at xs p)) few (record { is = at_shown h; list = e })
 
 -- ---- a page written
 

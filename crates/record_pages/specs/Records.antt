@@ -9,7 +9,7 @@ use Rattle.std.proofs.Math.Dec.{ltb}
 use Rattle.def_base.specs.Tests.{pick, lt_true, lt_false}
 use Rattle.def_layout.specs.Pages.{Page, zero_page, at}
 use Rattle.def_layout.specs.Records.{Rec}
-use Rattle.def_model.specs.Change.{shape, act}
+use Rattle.def_model.specs.Change.{Shape, shape, act}
 use Rattle.def_model.specs.Redo.{when_named, places, redo_at, redo_page, redo_places, redo_record, redo_left, redo_lefts}
 use Rattle.codec_page.specs.declared.Page as program
 use Rattle.codec_page.specs.Typed.{typed}
@@ -65,17 +65,17 @@ places_step false k p r ps xs = refl
 abbrev pub when_part : Bool → ℕ → Rec → ℕ → List Page → List Page
 when_part b k r p xs = pick b (redo_page k r p xs) xs
 
-pub record_parts : (k : ℕ) (r : Rec) (a b c m : Bool) (xs : List Page) → a ≡ (shape r.kind).a → b ≡ (shape r.kind).b → c ≡ (shape r.kind).c → m ≡ (shape r.kind).m
-    → when_part m k r 0 (when_part c k r r.pageC (when_part b k r r.pageB (when_part a k r r.pageA xs))) ≡ redo_record k r xs
+pub record_parts : (k : ℕ) (r : Rec) (s : Shape) (xs : List Page) → s ≡ shape r.kind
+    → when_part s.m k r 0 (when_part s.c k r r.pageC (when_part s.b k r r.pageB (when_part s.a k r r.pageA xs))) ≡ redo_record k r xs
 unfolding redo_record places redo_places
-record_parts k r a b c m xs ea eb ec em =
-    let s = shape r.kind in
+record_parts k r s xs e =
     let p4 = when_named s.m 0 [] in
     let p3 = when_named s.c r.pageC p4 in
     let p2 = when_named s.b r.pageB p3 in
-    sym (places_step s.a k r.pageA r p2 xs ∙ rw (← ea) (places_step s.b k r.pageB r p3 (when_part a k r r.pageA xs)
-    ∙ rw (← eb) (places_step s.c k r.pageC r p4 (when_part b k r r.pageB (when_part a k r r.pageA xs))
-    ∙ rw (← ec) (places_step s.m k 0 r [] (when_part c k r r.pageC (when_part b k r r.pageB (when_part a k r r.pageA xs))) ∙ rw (← em)))))
+    let x1 = when_part s.a k r r.pageA xs in
+    let x2 = when_part s.b k r r.pageB x1 in
+    let x3 = when_part s.c k r r.pageC x2 in
+    sym (rw (← e) (places_step s.a k r.pageA r p2 xs ∙ places_step s.b k r.pageB r p3 x1 ∙ places_step s.c k r.pageC r p4 x2 ∙ places_step s.m k 0 r [] x3))
 
 -- Their left links.
 lefts_step : (b : Bool) (k p : ℕ) (r : Rec) (ps : List ℕ) (xs : List Page) (ls : List ℕ)
@@ -87,22 +87,19 @@ lefts_step false k p r ps xs ls = refl
 abbrev pub when_left : Bool → ℕ → ℕ → List Page → List ℕ → List ℕ
 when_left b k p xs ls = pick b (redo_left k p xs ls) ls
 
-pub record_lefts : (k : ℕ) (r : Rec) (a b c m : Bool) (xs : List Page) (ls : List ℕ) → a ≡ (shape r.kind).a → b ≡ (shape r.kind).b → c ≡ (shape r.kind).c → m ≡ (shape r.kind).m
-    → when_left m k 0 (when_part c k r r.pageC (when_part b k r r.pageB (when_part a k r r.pageA xs)))
-    (when_left c k r.pageC (when_part b k r r.pageB (when_part a k r r.pageA xs)) (when_left b k r.pageB (when_part a k r r.pageA xs) (when_left a k r.pageA xs ls)))
+pub record_lefts : (k : ℕ) (r : Rec) (s : Shape) (xs : List Page) (ls : List ℕ) → s ≡ shape r.kind
+    → when_left s.m k 0 (when_part s.c k r r.pageC (when_part s.b k r r.pageB (when_part s.a k r r.pageA xs)))
+    (when_left s.c k r.pageC (when_part s.b k r r.pageB (when_part s.a k r r.pageA xs)) (when_left s.b k r.pageB (when_part s.a k r r.pageA xs) (when_left s.a k r.pageA xs ls)))
     ≡ redo_lefts k r (places r) xs ls
 unfolding places redo_lefts
-record_lefts k r a b c m xs ls ea eb ec em =
-    let s = shape r.kind in
+record_lefts k r s xs ls e =
     let p4 = when_named s.m 0 [] in
     let p3 = when_named s.c r.pageC p4 in
     let p2 = when_named s.b r.pageB p3 in
-    let x1 = when_part a k r r.pageA xs in
-    let x2 = when_part b k r r.pageB x1 in
-    let x3 = when_part c k r r.pageC x2 in
-    let l1 = when_left a k r.pageA xs ls in
-    let l2 = when_left b k r.pageB x1 l1 in
-    let l3 = when_left c k r.pageC x2 l2 in
-    sym (lefts_step s.a k r.pageA r p2 xs ls ∙ rw (← ea) (lefts_step s.b k r.pageB r p3 x1 l1
-    ∙ rw (← eb) (lefts_step s.c k r.pageC r p4 x2 l2
-    ∙ rw (← ec) (lefts_step s.m k 0 r [] x3 l3 ∙ rw (← em)))))
+    let x1 = when_part s.a k r r.pageA xs in
+    let x2 = when_part s.b k r r.pageB x1 in
+    let x3 = when_part s.c k r r.pageC x2 in
+    let l1 = when_left s.a k r.pageA xs ls in
+    let l2 = when_left s.b k r.pageB x1 l1 in
+    let l3 = when_left s.c k r.pageC x2 l2 in
+    sym (rw (← e) (lefts_step s.a k r.pageA r p2 xs ls ∙ lefts_step s.b k r.pageB r p3 x1 l1 ∙ lefts_step s.c k r.pageC r p4 x2 l2 ∙ lefts_step s.m k 0 r [] x3 l3))

@@ -14,8 +14,9 @@ ghost use Rattle.record_pages.specs.Pages.{Pages, Reads};
 ghost use Rattle.record_pages.specs.Records.{Keeps};
 
 use codec_page::{Page, nth_page, write_at};
+use def_layout::page::PageKind;
 use def_layout::{MOST_ENTRIES, PAGE_SIZE};
-use record_apply::roles::parts;
+use record_apply::roles::parts_of;
 use record_apply::{Record, apply};
 
 // Page p of an area of n pages, its count that of its entries: the map has none, and no page more than 14.
@@ -23,16 +24,14 @@ pub fn page_at(pages: &[u8], n: usize, p: u32) -> Page
     requires { HasPages n pages.now }
     ensures { (result.count ≤ room) × ((xs : List layout.Page) (ls : List ℕ) → Pages n pages.now xs ls → Reads result (layout.at xs p)) }
 {
-    let mut x = nth_page(pages, n, p as usize);
-    if x.kind >= 3 {
-        x.count = 0;
-        return x;
+    let x = nth_page(pages, n, p as usize);
+    match x.kind {
+        PageKind::Map => Page { count: 0, ..x },
+        _ => Page {
+            count: MOST_ENTRIES.min(x.count),
+            ..x
+        },
     }
-    if x.count > MOST_ENTRIES {
-        x.count = MOST_ENTRIES;
-        return x;
-    }
-    x
 }
 
 // Page p anew; past the last page there is nothing to write.
@@ -73,9 +72,9 @@ pub fn redo_record(pages: &mut [u8], n: usize, r: Record, k: u32)
     requires { HasPages n pages.old × (r.count ≤ room) }
     ensures { (xs : List layout.Page) (ls : List ℕ) → Pages n pages.old xs ls → Keeps k (rec r) → Pages n pages.new (redo_record k (rec r) xs) (redo_lefts k (rec r) (places (rec r)) xs ls) }
 {
-    let bits = parts(r.kind);
-    redo_part(pages, n, r, k, bits / 8 % 2 == 1, r.a);
-    redo_part(pages, n, r, k, bits / 4 % 2 == 1, r.b);
-    redo_part(pages, n, r, k, bits / 2 % 2 == 1, r.c);
-    redo_part(pages, n, r, k, bits % 2 == 1, 0);
+    let parts = parts_of(r.kind);
+    redo_part(pages, n, r, k, parts.a, r.a);
+    redo_part(pages, n, r, k, parts.b, r.b);
+    redo_part(pages, n, r, k, parts.c, r.c);
+    redo_part(pages, n, r, k, parts.map, 0);
 }

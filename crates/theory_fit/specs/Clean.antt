@@ -9,7 +9,8 @@ use native.Mathlib.Omega.{arith}
 use Rattle.std.proofs.Math.ListN.{length, get_or}
 use Rattle.def_base.specs.Tests.{clash}
 use Rattle.def_layout.specs.Entries.{top}
-use Rattle.def_layout.specs.Pages.{free, Page, at}
+use Rattle.def_layout.specs.Pages.{Page, at}
+use Rattle.def_layout.specs.declared.page.PageKind.TheVariants.{Free}
 use Rattle.def_layout.specs.Records.{Rec, data_row, split_row, link_row, unlink_row, merge_row, redistribute_row, raise_row, lower_row}
 use Rattle.def_model.specs.Change.{cut_to_size, as_b, role, change_b, change}
 use Rattle.def_model.specs.Change
@@ -26,7 +27,7 @@ use Rattle.theory_tree.specs.Step.Parts.{Lows, map_set, map_same, under, add_rol
 
 -- Free pages are of kind 0. (Not a tree rule; records keep it, and redo's judgement asks for it.)
 abbrev pub Clean : List Page → Type 0
-Clean pages = (p : ℕ) → p < length pages → get_or (at pages 0).marks p true ≡ false → (at pages p).kind ≡ free
+Clean pages = (p : ℕ) → p < length pages → get_or (at pages 0).marks p true ≡ false → (at pages p).kind ≡ Free
 
 -- What is clear after a bit is set, or cleared.
 set_true : (m : List Bool) (b p : ℕ) → get_or (set m b true) p true ≡ false → (p ≢ b) × (get_or m p true ≡ false)
@@ -56,7 +57,7 @@ module _ (num : ℕ) (pages : List Page) (lows : Lows num pages) (clean : Clean 
   )
 
   same : (r : Rec) (p : ℕ) → p < length (redo_record num r pages) → role r p ≡ Change.none → get_or (at pages 0).marks p true ≡ false
-      → (at (redo_record num r pages) p).kind ≡ free
+      → (at (redo_record num r pages) p).kind ≡ Free
   same r p h e f =
       let l : p < length pages = rw length_redo_record at h in
       ap (λ x. x.kind) (at_none num r pages p l e) ∙ clean p l f
@@ -105,7 +106,7 @@ module _ (num : ℕ) (pages : List Page) (lows : Lows num pages) (clean : Clean 
     where
       go : (ups ++ u ∷ []) ++ (bs ++ q ∷ t ∷ cs) ∷ downs ≡ ups ++ u ∷ (bs ++ q ∷ t ∷ cs) ∷ downs → t.page ≢ q.page → t.page < length pages
           → (p ≡ t.page) ⊎ (get_or (at pages 0).marks p true ≡ false)
-          → (at (redo_record num (merge_row q.page t.page t.high (first_page cs 0) t.items) pages) p).kind ≡ free
+          → (at (redo_record num (merge_row q.page t.page t.high (first_page cs 0) t.items) pages) p).kind ≡ Free
       go U tq ti (inl e) =
           ap (λ z. (at (redo_record num (merge_row q.page t.page t.high (first_page cs 0) t.items) pages) z).kind) e
           ∙ ap (λ x. x.kind) (at_part num (merge_row q.page t.page t.high (first_page cs 0) t.items) pages t.page as_b ti (lows t.page ti) (merge_role_b q.page t.page t.high (first_page cs 0) t.items tq) refl)
@@ -147,7 +148,7 @@ module _ (num : ℕ) (pages : List Page) (lows : Lows num pages) (clean : Clean 
       go qn c.1 (set_false (at pages 0).marks q.page p (ap (λ w. get_or w p true) (sym m) ∙ f))
     where
       go : q.page ≢ 1 → q.page < length pages → (p ≡ q.page) ⊎ (get_or (at pages 0).marks p true ≡ false)
-          → (at (redo_record num (lower_row (length downs) q.page q.items) pages) p).kind ≡ free
+          → (at (redo_record num (lower_row (length downs) q.page q.items) pages) p).kind ≡ Free
       go qn qi (inl e) =
           ap (λ z. (at (redo_record num (lower_row (length downs) q.page q.items) pages) z).kind) e
           ∙ ap (λ x. x.kind) (at_part num (lower_row (length downs) q.page q.items) pages q.page as_b qi (lows q.page qi) (lower_role_b (length downs) q.page q.items qn) refl)
@@ -173,4 +174,4 @@ module _ (num : ℕ) (pages : List Page) (lows : Lows num pages) (clean : Clean 
       let na = every_mid (λ w. w.page ≢ p) ups xs n ys [] aw in
       same row p h (cut_role_none kind batch previous n.page key v u p a (λ e. na (sym e))) f'
   step_clean ls ls' r (notes kind batch previous q) k p h f =
-      subst (λ z. (at z p).kind ≡ free) (sym (note_same num kind batch previous q pages)) (clean p (rw (note_same num kind batch previous q pages) at h) (subst (λ z. get_or (at z 0).marks p true ≡ false) (note_same num kind batch previous q pages) f))
+      subst (λ z. (at z p).kind ≡ Free) (sym (note_same num kind batch previous q pages)) (clean p (rw (note_same num kind batch previous q pages) at h) (subst (λ z. get_or (at z 0).marks p true ≡ false) (note_same num kind batch previous q pages) f))

@@ -5,7 +5,8 @@ use Rattle.std.proofs.Math.Option.{some}
 use Rattle.def_base.specs.Tests.{Case, yes!, no!, case, clash, none_some, some_inj, lt_true, true_lt, true_eq, eq_true, neq_false, le_true, true_le, and_true, and_both}
 use Rattle.def_layout.specs.declared.Entry.{Entry}
 use Rattle.def_layout.specs.Entries.{entry, entry_at, key_at, seek, look, same_entries, ten_bits}
-use Rattle.def_layout.specs.Pages.{PageKind, kind_is}
+use Rattle.def_layout.specs.Pages.{kind_is}
+use Rattle.def_layout.specs.declared.page.PageKind.{PageKind}
 use Rattle.def_model.specs.Fit.{found, found_value, nowhere}
 use Rattle.theory_tree.specs.Test.Sound.{kind_sound}
 use Rattle.theory_tree.specs.Test.Complete.{kind_complete}

@@ -8,7 +8,8 @@ use Rattle.def_base.specs.Tests.{pick, Case, yes!, no!, case, clash, eq_true, ne
 use Rattle.def_layout.specs.declared.Entry.{Entry}
 use Rattle.def_layout.specs.Entries.{entry, entry_at, key_at, seek}
 use Rattle.def_layout.specs.Sizes.{room}
-use Rattle.def_layout.specs.Pages.{Page, size, kind_is, kind_at, free, leaf, index}
+use Rattle.def_layout.specs.Pages.{Page, size, kind_is, kind_at}
+use Rattle.def_layout.specs.declared.page.PageKind.TheVariants.{Free, Leaf, Index}
 use Rattle.def_layout.specs.Records.{Rec, Kind, insert, delete, undo_insert, undo_delete, split, link, unlink, merge, redistribute, raise, lower}
 use Rattle.def_model.specs.Change.{Role, as_a, as_b, as_c, as_map, shape, role, first_key, kept, takes}
 use Rattle.def_model.specs.Fit.{nowhere, is_leaf, is_node, at_level, has_room, children_in, share_fits_a, share_fits_b, fits_a, fits_b, fits_map, fits_role, fits}
@@ -35,7 +36,7 @@ module _ (r : Rec) (x : Page) {P : Type 0} (k : Kind) (e : r.kind ≡ k) where
       by_role r.pageB as_b (rw (e, other (shape k).a r.pageB r.pageA (λ t. n), s, eq_true r.pageB r.pageB refl))
       (subst (λ z. Exactly (fits_b z r x) P) (sym e) w)
 
-  on_c : (shape k).c ≡ true → (shape k).b ≡ false → r.pageC ≢ r.pageA → Exactly (kind_is x.kind free) P → Exactly (fits r.pageC r x) P
+  on_c : (shape k).c ≡ true → (shape k).b ≡ false → r.pageC ≢ r.pageA → Exactly (kind_is x.kind Free) P → Exactly (fits r.pageC r x) P
   unfolding role fits_role
   on_c s b n w = by_role r.pageC as_c (rw (e, other (shape k).a r.pageC r.pageA (λ t. n), b, s, eq_true r.pageC r.pageC refl)) w
 
@@ -51,17 +52,17 @@ module _ (r : Rec) (x : Page) {P : Type 0} (k : Kind) (e : r.kind ≡ k) where
 
 -- The page is a leaf or an index.
 abbrev pub IsNode : Page → Type 0
-IsNode x = (x.kind ≡ leaf) ⊎ (x.kind ≡ index)
+IsNode x = (x.kind ≡ Leaf) ⊎ (x.kind ≡ Index)
 
 node : (x : Page) → Exactly (is_node x) (IsNode x)
-node x = either (of_kind x.kind leaf) (of_kind x.kind index)
+node x = either (of_kind x.kind Leaf) (of_kind x.kind Index)
 
 -- In an index the entries have children of ten bits.
 abbrev pub Children : Page → List Entry → Type 0
-Children x es = (x.kind ≡ leaf) ⊎ ((i : ℕ) → i < length es → (entry_at es i).val < 1024)
+Children x es = (x.kind ≡ Leaf) ⊎ ((i : ℕ) → i < length es → (entry_at es i).val < 1024)
 
 children : (x : Page) (es : List Entry) → Exactly (children_in x es) (Children x es)
-children x es = either (of_kind x.kind leaf) (of_ten_bits es)
+children x es = either (of_kind x.kind Leaf) (of_ten_bits es)
 
 -- The page stands at a level, and its kind is that level's.
 abbrev pub AtLevel : ℕ → Page → Type 0
@@ -72,13 +73,13 @@ level l x = both (of_kind x.kind (kind_at l)) (equal x.level l)
 
 -- A leaf with fewer than 14 entries, none of them of this key, wherever it might stand.
 abbrev pub Lacks : ℕ → Page → Type 0
-Lacks k x = (x.kind ≡ leaf) × ((size x < room) × ((i : ℕ) → i < size x → key_at x.entries i ≢ k))
+Lacks k x = (x.kind ≡ Leaf) × ((size x < room) × ((i : ℕ) → i < size x → key_at x.entries i ≢ k))
 
 room_for_one : (x : Page) → Exactly (leb (size x + 1) room) (size x < room)
 room_for_one x = said (λ h. omega arith) (λ h. omega arith) (at_most (size x + 1) room)
 
 lacks : (k : ℕ) (x : Page) → Exactly (is_leaf x && (has_room 1 x && nowhere k x.entries)) (Lacks k x)
-lacks k x = both (of_kind x.kind leaf) (both (room_for_one x) (stands_nowhere k x.entries))
+lacks k x = both (of_kind x.kind Leaf) (both (room_for_one x) (stands_nowhere k x.entries))
 
 -- On the map: the bit of a page taken is clear, of a page freed set.
 pub taken_means : (b : ℕ) (x : Page) → Exactly (fits_map true b x.marks) (get_or x.marks b true ≡ false)
@@ -102,15 +103,15 @@ module _ (r : Rec) (x : Page) where
   insert_means e = on_a r x insert e refl (lacks r.key x)
 
   -- 3: a leaf where the search finds (key, second).
-  pub delete_means : r.kind ≡ delete → Exactly (fits r.pageA r x) ((x.kind ≡ leaf) × (seek r.key x.entries ≡ some (entry r.key r.second)))
+  pub delete_means : r.kind ≡ delete → Exactly (fits r.pageA r x) ((x.kind ≡ Leaf) × (seek r.key x.entries ≡ some (entry r.key r.second)))
   unfolding fits_a
-  delete_means e = on_a r x delete e refl (both (of_kind x.kind leaf) (finds_value r.second r.key x.entries))
+  delete_means e = on_a r x delete e refl (both (of_kind x.kind Leaf) (finds_value r.second r.key x.entries))
 
   -- 4: a leaf where the search finds the key, with any value.
   pub undo_insert_means : r.kind ≡ undo_insert
-      → Exactly (fits r.pageA r x) ((x.kind ≡ leaf) × ((v : ℕ) × (seek r.key x.entries ≡ some (entry r.key v))))
+      → Exactly (fits r.pageA r x) ((x.kind ≡ Leaf) × ((v : ℕ) × (seek r.key x.entries ≡ some (entry r.key v))))
   unfolding fits_a
-  undo_insert_means e = on_a r x undo_insert e refl (both (of_kind x.kind leaf) (finds_key r.key x.entries))
+  undo_insert_means e = on_a r x undo_insert e refl (both (of_kind x.kind Leaf) (finds_key r.key x.entries))
 
   -- 5: as 2.
   pub undo_delete_means : r.kind ≡ undo_delete → Exactly (fits r.pageA r x) (Lacks r.key x)
@@ -129,24 +130,24 @@ module _ (r : Rec) (x : Page) where
       (said (λ w. (ends_join w.0 w.1.0, w.1.1)) (λ w. let (d, l) = ends_cut w.0 in (d, (l, w.1)))
       (both (same _ r.entries) (both (last_key r.key (kept r.entries x.entries)) (equal x.right r.right))))))
 
-  pub split_b_means : r.kind ≡ split → r.pageB ≢ r.pageA → Exactly (fits r.pageB r x) (x.kind ≡ free)
+  pub split_b_means : r.kind ≡ split → r.pageB ≢ r.pageA → Exactly (fits r.pageB r x) (x.kind ≡ Free)
   unfolding fits_b
-  split_b_means e n = on_b r x split e refl n (of_kind x.kind free)
+  split_b_means e n = on_b r x split e refl n (of_kind x.kind Free)
 
   pub split_map_means : r.kind ≡ split → 0 ≢ r.pageA → 0 ≢ r.pageB → Exactly (fits 0 r x) (get_or x.marks r.pageB true ≡ false)
   split_map_means e a b = on_map r x split e refl (λ t. a) (λ t. b) (λ t. clash (sym t)) (taken_means r.pageB x)
 
   -- 10: an index with room and the entry (second, B), the key strictly between the one before it and second.
   pub link_means : r.kind ≡ link
-      → Exactly (fits r.pageA r x) ((x.kind ≡ index) × ((size x < room) × LinkPlace r.pageB r.key r.second 0 x.entries))
+      → Exactly (fits r.pageA r x) ((x.kind ≡ Index) × ((size x < room) × LinkPlace r.pageB r.key r.second 0 x.entries))
   unfolding fits_a
-  link_means e = on_a r x link e refl (both (of_kind x.kind index) (both (room_for_one x) (link_place r.pageB r.key r.second 0 x.entries)))
+  link_means e = on_a r x link e refl (both (of_kind x.kind Index) (both (room_for_one x) (link_place r.pageB r.key r.second 0 x.entries)))
 
   -- 11: an index with (key, B) and (second, C) side by side.
   pub unlink_means : r.kind ≡ unlink
-      → Exactly (fits r.pageA r x) ((x.kind ≡ index) × SidePlace r.pageB r.key r.pageC r.second x.entries)
+      → Exactly (fits r.pageA r x) ((x.kind ≡ Index) × SidePlace r.pageB r.key r.pageC r.second x.entries)
   unfolding fits_a
-  unlink_means e = on_a r x unlink e refl (both (of_kind x.kind index) (side_place r.pageB r.key r.pageC r.second x.entries))
+  unlink_means e = on_a r x unlink e refl (both (of_kind x.kind Index) (side_place r.pageB r.key r.pageC r.second x.entries))
 
   -- 12: a page with room for the moved entries, B to its right, its last below the first moved one; B with just these, the right link, marked.
   pub merge_means : r.kind ≡ merge
@@ -215,8 +216,8 @@ module _ (r : Rec) (x : Page) where
       on_a r x raise e refl
       (both (level r.level x) (both (same x.entries r.entries) (both (equal x.right r.pageB) (below r.level 15))))
 
-  pub raise_c_means : r.kind ≡ raise → r.pageC ≢ r.pageA → Exactly (fits r.pageC r x) (x.kind ≡ free)
-  raise_c_means e n = on_c r x raise e refl refl n (of_kind x.kind free)
+  pub raise_c_means : r.kind ≡ raise → r.pageC ≢ r.pageA → Exactly (fits r.pageC r x) (x.kind ≡ Free)
+  raise_c_means e n = on_c r x raise e refl refl n (of_kind x.kind Free)
 
   pub raise_map_means : r.kind ≡ raise → 0 ≢ r.pageA → 0 ≢ r.pageC → Exactly (fits 0 r x) (get_or x.marks r.pageC true ≡ false)
   raise_map_means e a c = on_map r x raise e refl (λ t. a) (λ t. clash (sym t)) (λ t. c) (taken_means r.pageC x)

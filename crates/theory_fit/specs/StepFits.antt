@@ -10,7 +10,8 @@ use Rattle.def_base.specs.Tests.{Case, yes!, no!, case, clash, lt_true, eq_true,
 use Rattle.def_layout.specs.declared.Entry.{Entry}
 use Rattle.def_layout.specs.Entries.{top, look}
 use Rattle.def_layout.specs.Sizes.{room}
-use Rattle.def_layout.specs.Pages.{free, page_kind_number, kind_is, Page, at, map_bits}
+use Rattle.def_layout.specs.Pages.{page_kind_number, kind_is, Page, at, map_bits}
+use Rattle.def_layout.specs.declared.page.PageKind.TheVariants.{Free}
 use Rattle.def_layout.specs.Records.{Kind, Rec, batch_row, data_row, split_row, link_row, unlink_row, merge_row, redistribute_row, raise_row, lower_row}
 use Rattle.def_model.specs.Change.{first_key, kept}
 use Rattle.def_model.specs.Fit.{found, found_value, children_in, after, link_fits, side_by_side, share_fits_a, share_fits_b, fits_a, fits_b, fits_map, fits_role, fits}
@@ -36,7 +37,7 @@ use Rattle.theory_fit.specs.Children.{node_bits, below_of, children_part}
 use Rattle.theory_fit.specs.Clean.{Clean}
 
 module _ (pages : List Page) (small : length pages ≤ map_bits) (clean : Clean pages) where
-  free_test : (b : ℕ) → Gives (length pages) (at pages 0).marks b → kind_is (at pages b).kind free ≡ true
+  free_test : (b : ℕ) → Gives (length pages) (at pages 0).marks b → kind_is (at pages b).kind Free ≡ true
   unfolding kind_is page_kind_number
   free_test b g = rw (clean b g.inside g.is_free)
 

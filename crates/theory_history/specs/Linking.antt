@@ -6,7 +6,8 @@ use Rattle.std.proofs.Math.Decide.{dec_lt}
 use Rattle.std.proofs.lemmas.List.{replicate-append-replicate}
 use Rattle.std.proofs.Math.ListN.{get_or-eq_default}
 use Rattle.def_base.specs.Tests.{pick, Case, yes!, no!, case, clash}
-use Rattle.def_layout.specs.Pages.{Page, leaf, kind_is, map_bits, storage_map, zero_page, at}
+use Rattle.def_layout.specs.Pages.{Page, kind_is, map_bits, zero_page, at}
+use Rattle.def_layout.specs.declared.page.PageKind.TheVariants.{Leaf, Map}
 use Rattle.def_layout.specs.Records.{Rec}
 use Rattle.def_model.specs.TreeRules.{Node, levels_of, bottom}
 use Rattle.def_model.specs.Links.{relink, of_leaves, relinked}
@@ -34,16 +35,16 @@ NarrowLinks ls = (p : ℕ) → get_or ls p 0 < 1024
 
 -- WORKED OUT FROM SUCH LINKS, each is one that its page may have.
 module _ (xs : List Page) (few : length xs ≤ map_bits) (k : Rules xs (levels_of xs)) (ls : List ℕ) (w : NarrowLinks ls) where
-  of_leaf : (p : ℕ) → Case (kind_is (at xs p).kind leaf) → Links (at xs p) (pick (kind_is (at xs p).kind leaf) (get_or ls p 0) 0)
+  of_leaf : (p : ℕ) → Case (kind_is (at xs p).kind Leaf) → Links (at xs p) (pick (kind_is (at xs p).kind Leaf) (get_or ls p 0) 0)
   of_leaf p (yes! e) = rw e (record { narrow = w p; other = λ f. clash (sym (sym (leaf_kind (at xs p).kind) ∙ e) ∙ f) })
   of_leaf p (no! e) = rw e (record { narrow = lit< tt; other = λ f. refl })
 
   -- Those of leaves as they were, all others none.
   kept_links : (p : ℕ) → Dec (p < length xs) → Links (at xs p) (get_or (of_leaves xs ls) p 0)
-  kept_links p (yes h) = subst (Links (at xs p)) (sym (of_leaves_at xs ls p h)) (of_leaf p (case (kind_is (at xs p).kind leaf)))
+  kept_links p (yes h) = subst (Links (at xs p)) (sym (of_leaves_at xs ls p h)) (of_leaf p (case (kind_is (at xs p).kind Leaf)))
   kept_links p (no h) = let e = of_leaves_length xs ls in subst (Links (at xs p)) (sym (get_or-eq_default (of_leaves xs ls) 0 {n = p} (omega arith))) (record { narrow = lit< tt; other = λ f. refl })
 
-  narrow_leaves : (ns : List Node) → All (λ x. ((at xs x.page).kind ≡ leaf) × (x.page < length xs)) ns → All (λ x. ((at xs x.page).kind ≡ leaf) × (x.page < 1024)) ns
+  narrow_leaves : (ns : List Node) → All (λ x. ((at xs x.page).kind ≡ Leaf) × (x.page < length xs)) ns → All (λ x. ((at xs x.page).kind ≡ Leaf) × (x.page < 1024)) ns
   unfolding All
   narrow_leaves [] a = tt
   narrow_leaves (x ∷ ns) a = let i = a.0.1 in ((a.0.0, omega arith), narrow_leaves ns a.1)
@@ -51,7 +52,7 @@ module _ (xs : List Page) (few : length xs ≤ map_bits) (k : Rules xs (levels_o
   pub relinked_links : (p : ℕ) → Links (at xs p) (get_or (relinked xs ls) p 0)
   unfolding relinked
   relinked_links p =
-      relink_each (λ p l. Links (at xs p) l) (λ p. (at xs p).kind ≡ leaf) (λ l. l < 1024) (λ p l e i. record { narrow = i; other = λ f. clash (sym (ap leaf? e) ∙ f) })
+      relink_each (λ p l. Links (at xs p) l) (λ p. (at xs p).kind ≡ Leaf) (λ l. l < 1024) (λ p l e i. record { narrow = i; other = λ f. clash (sym (ap leaf? e) ∙ f) })
       0 (bottom (levels_of xs)) (of_leaves xs ls) (lit< tt) (narrow_leaves (bottom (levels_of xs)) (leaves_are xs k)) (λ p. kept_links p (dec_lt p (length xs))) p
 
 -- ---- a history
@@ -67,7 +68,7 @@ module _ (o : Origin) (n : ℕ) (most : n ≤ map_bits) (log : List Rec) (h : Hi
       (prefix_clean log [] (subst (λ z. Lawful 1 (origin_pages o n) (levels_of (origin_pages o n)) z (levels_of (pages_after o n log))) (sym (append-nil log)) h.lawful) (omega arith)
       (test_sound (origin_pages o n) (origin_tree o n h.least most)) (pages_low o n h.least) (origin_clean o n h.least))
 
-  pub history_map : (at (pages_after o n log) 0).kind ≡ storage_map
+  pub history_map : (at (pages_after o n log) 0).kind ≡ Map
   history_map = let p = pages_pos (pages_after o n log) (levels_of (pages_after o n log)) history_rules in (map_laid _ (at (pages_after o n log) 0) ((history_now o n log h).laid 0 (omega arith))).kind
 
   -- WHATEVER LINKS THERE WERE, worked out they are the same.

@@ -9,7 +9,9 @@ use Rattle.def_base.specs.Tests.{pick, Case, yes!, no!, case, clash, and_true, a
 use Rattle.def_layout.specs.declared.Entry.{Entry}
 use Rattle.def_layout.specs.Entries.{top, entry, ten_bits, same_entries}
 use Rattle.def_layout.specs.Sizes.{room}
-use Rattle.def_layout.specs.Pages.{Page, PageKind, free, leaf, index, storage_map, page_kind_number, kind_is, kind_at, node_at, layout, layout_by, own_ok, map_bits}
+use Rattle.def_layout.specs.Pages.{Page, page_kind_number, kind_is, kind_at, node_at, layout, layout_by, own_ok, map_bits}
+use Rattle.def_layout.specs.declared.page.PageKind.{PageKind}
+use Rattle.def_layout.specs.declared.page.PageKind.TheVariants.{Free, Leaf, Index, Map}
 use Rattle.def_layout.specs.Records.{Kind, begin, insert, delete, undo_insert, undo_delete, commit, abort_mark, end, split, link, unlink, merge, redistribute, raise, lower, Rec}
 use Rattle.def_layout.specs.Rows.{level_bits, carries, named_only, row, row_says}
 use Rattle.def_model.specs.Change.{as_map, shape, role, hit, link_in, unlink_in, kept, with_lsn, entries_in, cut_to_size, into_a, share_in_a, share_in_b, change_a, change_b, change_c, change, page_marked, takes, act}
@@ -87,14 +89,14 @@ node_laid : (n p : ℕ) (x : Page) → layout n p x ≡ true → is_node x ≡ t
 unfolding layout layout_by own_ok kind_is page_kind_number
 node_laid n p x t u = go x.kind refl t u
   where
-    go : (k : PageKind) → x.kind ≡ k → layout_by k n p x ≡ true → kind_is k leaf || kind_is k index ≡ true → NodeLaid p x
-    go free e t u = clash (sym u)
-    go storage_map e t u = clash (sym u)
-    go leaf e t u =
+    go : (k : PageKind) → x.kind ≡ k → layout_by k n p x ≡ true → kind_is k Leaf || kind_is k Index ≡ true → NodeLaid p x
+    go Free e t u = clash (sym u)
+    go Map e t u = clash (sym u)
+    go Leaf e t u =
         let (a, t₁) = and_true (ltb 0 p) _ t in
         let (b, t₂) = and_true (eqb x.own p) _ t₁ in
         record { pos = true_lt 0 p a; own = true_eq x.own p b; children = rw e refl }
-    go index e t u =
+    go Index e t u =
         let (a, t₁) = and_true (ltb 0 p) _ t in
         let (b, t₂) = and_true (eqb x.own p) _ t₁ in
         let (c, t₃) = and_true (ltb 0 x.level) _ t₂ in
@@ -122,15 +124,15 @@ node_closes n p m x y lw t u k o l c = go x.kind refl t u c
     lv : y.level % 16 ≡ x.level
     lv = ap (λ z. z % 16) l ∙ keep x.level lw
 
-    go : (q : PageKind) → x.kind ≡ q → layout_by q n p x ≡ true → kind_is q leaf || kind_is q index ≡ true → kind_is q leaf || ten_bits y.entries ≡ true → layout_by y.kind n p (with_lsn m (cut_to_size y)) ≡ true
-    go free e t u c = clash (sym u)
-    go storage_map e t u c = clash (sym u)
-    go leaf e t u c =
+    go : (q : PageKind) → x.kind ≡ q → layout_by q n p x ≡ true → kind_is q Leaf || kind_is q Index ≡ true → kind_is q Leaf || ten_bits y.entries ≡ true → layout_by y.kind n p (with_lsn m (cut_to_size y)) ≡ true
+    go Free e t u c = clash (sym u)
+    go Map e t u c = clash (sym u)
+    go Leaf e t u c =
         let (a, t₁) = and_true (ltb 0 p) _ t in
         let (b, t₂) = and_true (eqb x.own p) _ t₁ in
         let (d, t₃) = and_true (eqb x.level 0) _ t₂ in
         rw (k ∙ e) (and_both a (and_both (ap (λ z. eqb z p) o ∙ b) (and_both (ap (λ z. eqb z 0) lv ∙ d) (le_true (length (take room y.entries)) room (few y.entries)))))
-    go index e t u c =
+    go Index e t u c =
         let (a, t₁) = and_true (ltb 0 p) _ t in
         let (b, t₂) = and_true (eqb x.own p) _ t₁ in
         let (d, t₃) = and_true (ltb 0 x.level) _ t₂ in
@@ -146,15 +148,15 @@ new_closes n p m own (suc level) right high es o h l b =
     rw (eqb-suc-zero level) (and_both (lt_true 0 p h) (and_both (eq_true own p o) (and_both (ap (λ z. ltb 0 z) k ∙ lt_true 0 (suc level) (omega arith)) (and_both (le_true (length (take room es)) room (few es)) (bits_take room es t)))))
 
 -- A free page is not page 0.
-free_pos : (n p : ℕ) (x : Page) → layout n p x ≡ true → kind_is x.kind free ≡ true → 0 < p
+free_pos : (n p : ℕ) (x : Page) → layout n p x ≡ true → kind_is x.kind Free ≡ true → 0 < p
 unfolding layout layout_by kind_is page_kind_number
 free_pos n p x t u = go x.kind t u
   where
-    go : (k : PageKind) → layout_by k n p x ≡ true → kind_is k free ≡ true → 0 < p
-    go free t u = true_lt 0 p (and_true (ltb 0 p) _ t).0
-    go leaf t u = clash (sym u)
-    go index t u = clash (sym u)
-    go storage_map t u = clash (sym u)
+    go : (k : PageKind) → layout_by k n p x ≡ true → kind_is k Free ≡ true → 0 < p
+    go Free t u = true_lt 0 p (and_true (ltb 0 p) _ t).0
+    go Leaf t u = clash (sym u)
+    go Index t u = clash (sym u)
+    go Map t u = clash (sym u)
 
 -- ---- each part of a record
 
@@ -181,7 +183,7 @@ module _ (n p m : ℕ) (most : n ≤ map_bits) (r : Rec) (x : Page) (low : x.lev
   level_node : (l : ℕ) → kind_is x.kind (kind_at l) && eqb x.level l ≡ true → is_node x ≡ true
   level_node l u = go (eqb l 0) (and_true (kind_is x.kind (kind_at l)) _ u).0
     where
-      go : (b : Bool) → kind_is x.kind (pick b leaf index) ≡ true → is_node x ≡ true
+      go : (b : Bool) → kind_is x.kind (pick b Leaf Index) ≡ true → is_node x ≡ true
       go true v = rw v refl
       go false v = index_node v
 
@@ -271,7 +273,7 @@ module _ (n p m : ℕ) (most : n ≤ map_bits) (r : Rec) (x : Page) (low : x.lev
       let a = node_laid n p x laid (level_node r.level v) in
       freed_layout n m p x.own a.pos a.own
 
-  as_c_laid : (k : Kind) → r.kind ≡ k → (shape k).c ≡ true → p ≡ r.pageC → kind_is x.kind free ≡ true → row_says k m r ≡ true → layout n p (with_lsn m (cut_to_size (change_c r x))) ≡ true
+  as_c_laid : (k : Kind) → r.kind ≡ k → (shape k).c ≡ true → p ≡ r.pageC → kind_is x.kind Free ≡ true → row_says k m r ≡ true → layout n p (with_lsn m (cut_to_size (change_c r x))) ≡ true
   unfolding change_c row_says
   as_c_laid begin e s q f w = clash (sym s)
   as_c_laid insert e s q f w = clash (sym s)

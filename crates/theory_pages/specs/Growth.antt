@@ -6,7 +6,8 @@ use mathlib.Core.List.{List, [], ◌∷◌}
 use native.Mathlib.Omega.{arith}
 use Rattle.std.proofs.Math.Decide.{dec_le}
 use Rattle.def_base.specs.Tests.{clash, any}
-use Rattle.def_layout.specs.Pages.{free, Page, at, layout}
+use Rattle.def_layout.specs.Pages.{Page, at, layout}
+use Rattle.def_layout.specs.declared.page.PageKind.TheVariants.{Free}
 use Rattle.def_layout.specs.Records.{Rec}
 use Rattle.def_model.specs.Redo.{redo_record}
 use Rattle.def_model.specs.TreeRules.{Node, first_page, ones}
@@ -95,7 +96,7 @@ module _ (pages pages' : List Page) (grows : Extends pages pages') where
     pub clean_grow : Clean pages → Clean pages'
     clean_grow c p h f = go (dec_le (suc p) (length pages))
       where
-        go : Dec (p < length pages) → (at pages' p).kind ≡ free
+        go : Dec (p < length pages) → (at pages' p).kind ≡ Free
         go (yes i) = ap (λ x. x.kind) (grows.same p i) ∙ c p i (ap (λ z. get_or z p true) (sym marks_same) ∙ f)
         go (no i) = ap (λ x. x.kind) (zeros p (omega arith))
 

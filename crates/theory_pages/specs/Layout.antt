@@ -6,7 +6,9 @@ use Rattle.def_base.specs.Tests.{clash, lt_true, true_eq, eq_true, neq_false, le
 use Rattle.def_layout.specs.declared.Entry.{Entry}
 use Rattle.def_layout.specs.Entries.{ten_bits}
 use Rattle.def_layout.specs.Sizes.{room}
-use Rattle.def_layout.specs.Pages.{PageKind, free, leaf, index, storage_map, Page, freed, zero_page, at, map_bits, own_ok, never_used, bare, layout_by, layout}
+use Rattle.def_layout.specs.Pages.{Page, freed, zero_page, at, map_bits, own_ok, never_used, bare, layout_by, layout}
+use Rattle.def_layout.specs.declared.page.PageKind.{PageKind}
+use Rattle.def_layout.specs.declared.page.PageKind.TheVariants.{Free, Leaf, Index, Map}
 use Rattle.def_layout.specs.Rows.{level_bits}
 use Rattle.def_model.specs.Change.{with_lsn, with_marks, entries_in, cut_to_size}
 use Rattle.def_model.specs.TreeRules.{Node, first_page}
@@ -60,15 +62,15 @@ node_layout pages ups xs n ys downs few k o = go downs (page_at pages ups xs n y
 -- ---- the map
 
 -- Page 0 is the map.
-map_kind : (n : ℕ) (x : Page) → layout n 0 x ≡ true → x.kind ≡ storage_map
+map_kind : (n : ℕ) (x : Page) → layout n 0 x ≡ true → x.kind ≡ Map
 unfolding layout layout_by
 map_kind n x t = go x.kind refl t
   where
-    go : (k : PageKind) → x.kind ≡ k → layout_by k n 0 x ≡ true → x.kind ≡ storage_map
-    go free e t = clash (sym t)
-    go leaf e t = clash (sym t)
-    go index e t = clash (sym t)
-    go storage_map e t = e
+    go : (k : PageKind) → x.kind ≡ k → layout_by k n 0 x ≡ true → x.kind ≡ Map
+    go Free e t = clash (sym t)
+    go Leaf e t = clash (sym t)
+    go Index e t = clash (sym t)
+    go Map e t = e
 
 not_true : (b : Bool) → not b ≡ true → b ≡ false
 not_true true e = clash (sym e)
@@ -76,7 +78,7 @@ not_true false e = refl
 
 -- The parts of the map's layout.
 pub record MapLaid (n : ℕ) (x : Page) : Type 0 where
-  pub kind : x.kind ≡ storage_map
+  pub kind : x.kind ≡ Map
   pub own : x.own ≡ 0
   pub level : x.level ≡ 0
   pub right : x.right ≡ 0
@@ -150,10 +152,10 @@ unfolding layout layout_by
 longer_layout n k p x h t = go x.kind refl t
   where
     go : (j : PageKind) → x.kind ≡ j → layout_by j n p x ≡ true → layout_by j k p x ≡ true
-    go free e u = u
-    go leaf e u = u
-    go index e u = u
-    go storage_map e u =
+    go Free e u = u
+    go Leaf e u = u
+    go Index e u = u
+    go Map e u =
         let (a, u₁) = and_true (eqb p 0) _ u in
         let (b, u₂) = and_true (own_ok p x) _ u₁ in
         let (c, d) = and_true (bare x) (not (any (λ b. b) (drop n x.marks))) u₂ in

@@ -2,7 +2,8 @@
 use Rattle.std.specs.Prelude.{ℕ, ◌<◌, ◌≡◌, Bool, true, false, ◌&&◌, List, length, ltb, eqb}
 use Rattle.std.proofs.Common.{sym, subst}
 use Rattle.def_base.specs.Tests.{pick}
-use Rattle.def_layout.specs.Pages.{leaf, index, Page, kind_at, at}
+use Rattle.def_layout.specs.Pages.{Page, kind_at, at}
+use Rattle.def_layout.specs.declared.page.PageKind.TheVariants.{Leaf, Index}
 use Rattle.def_layout.specs.Records.{Rec}
 use Rattle.def_model.specs.Change.{act, hits}
 use Rattle.def_model.specs.Redo.{redo_record}
@@ -20,7 +21,7 @@ pub node_fits : (l : ℕ) (x : Page) → x.kind ≡ kind_at l → PageFits x →
 unfolding BodyFits
 node_fits l x e h = by_test (eqb l 0) (subst (λ k. BodyFits k x) e h.body)
   where
-    by_test : (b : Bool) → BodyFits (pick b leaf index) x → NodeFits x
+    by_test : (b : Bool) → BodyFits (pick b Leaf Index) x → NodeFits x
     by_test true f = f
     by_test false f = f
 

@@ -19,6 +19,7 @@ ghost use Rattle.tree_check.specs.Above.{shown, Readied, Passed, Started};
 
 use codec_map::count_used;
 use codec_page::{Page, marked, nth_page, size_of};
+use def_layout::page::PageKind;
 use def_layout::{Entry, ROOM};
 
 // 01: a page beside another holds at least 4 entries.
@@ -44,10 +45,7 @@ struct Above {
 fn kind_ok(x: Page, level: u32) -> bool
     ensures { result ≡ kind_is (typed x).kind (kind_at level) }
 {
-    if level == 0 {
-        return x.kind == 1;
-    }
-    x.kind == 2
+    x.kind == PageKind::at_level(level)
 }
 
 // Page p is in the area, of the level's kind and level, and marked as used.
@@ -326,9 +324,9 @@ pub fn tree_ok(pages: &[u8], n: usize) -> bool
     ensures { result ≡ tree_ok (pages_of n pages.now) }
 {
     let x = nth_page(pages, n, 0);
-    if x.kind < 3 {
+    let PageKind::Map = x.kind else {
         return false;
-    }
+    };
     let map = x.entries;
     if !marked(map, 0) {
         return false;

@@ -5,7 +5,8 @@ use Rattle.std.proofs.Common.{ap₂, ◌∙◌, arith}
 use Rattle.std.proofs.Math.ListN.{length, set, length-set}
 use Rattle.def_base.specs.Tests.{clash}
 use Rattle.def_layout.specs.Numbers.{be32, put32}
-use Rattle.def_layout.specs.Pages.{Page, at, leaf}
+use Rattle.def_layout.specs.Pages.{Page, at}
+use Rattle.def_layout.specs.declared.page.PageKind.TheVariants.{Leaf}
 use Rattle.def_layout.specs.Sizes.{page_size}
 use Rattle.def_model.specs.TreeRules.{Node, node_of, chain, levels_of, bottom, tree_ok}
 use Rattle.def_model.specs.Links.{relink, of_leaves, relinked}
@@ -22,7 +23,7 @@ use Rattle.tree_links.specs.Leaves.{first_leaf, leaves_from, chain_none, chain_o
 
 -- Each is a leaf, and in the area.
 abbrev Leaves : ℕ → List Page → List Node → Type 0
-Leaves n xs ns = All (λ x. ((at xs x.page).kind ≡ leaf) × (x.page < n)) ns
+Leaves n xs ns = All (λ x. ((at xs x.page).kind ≡ Leaf) × (x.page < n)) ns
 
 -- So far: the area shows the pages with some links; with those of the leaves from page p on, of which `left` may follow, they are all links.
 pub record SoFar (n : ℕ) (area : List ℕ) (xs : List Page) (ls : List ℕ) (p before left : ℕ) : Type 0 where
@@ -44,7 +45,7 @@ begun n area xs ls p left all h t few e =
       pages = record { bytes = h.bytes ∙ sym (work_leaves xs ls h.links); links = subst AllLinks (sym (paired_leaves xs ls h.links)) h.links; fits = h.fits; size = h.size };
       size = of_leaves_length xs ls;
       rest = ap (λ ns. relink 0 ns (of_leaves xs ls)) (sym f);
-      leaves = subst (λ k. All (λ x. ((at xs x.page).kind ≡ leaf) × (x.page < k)) (chain left xs p)) h.size (subst (λ ns. All (λ x. ((at xs x.page).kind ≡ leaf) × (x.page < length xs)) ns) f (leaves_are xs (test_sound xs t)));
+      leaves = subst (λ k. All (λ x. ((at xs x.page).kind ≡ Leaf) × (x.page < k)) (chain left xs p)) h.size (subst (λ ns. All (λ x. ((at xs x.page).kind ≡ Leaf) × (x.page < length xs)) ns) f (leaves_are xs (test_sound xs t)));
       narrow = omega arith;
     }
 

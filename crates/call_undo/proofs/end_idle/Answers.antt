@@ -1,30 +1,26 @@
 -- `end_idle`: row after row.
-use mathlib.Core.Path.{refl, ◌∙◌}
-use Prim.Native.Nat.{◌-◌}
+use mathlib.Core.Path.{◌∙◌, subst}
+use Prim.Native.Nat.{◌<◌}
 use native.Mathlib.Omega.{arith}
-use Rattle.call_undo.specs.Ending.{ending_start, ending_on, ending_end}
+use Rattle.std.proofs.lemmas.List.{length-take, get_or-take}
+use Rattle.def_layout.specs.declared.Row.{Row}
+use Rattle.def_layout.specs.Desks.{no_row}
+use Rattle.call_undo.specs.Ending.{EndsTurn, ending_on, ending_end}
 use Rattle.call_undo.proofs.end_idle.Goals as goal
 
-pub loop-i-init : goal.loop-i-init
-loop-i-init c = let a = c.args in (refl, refl, ending_start a.rows a.used)
-
-pub end_row-run-requires : goal.end_row-run-requires
-end_row-run-requires c =
-    let p = c.requires.0 in
-    let i = c.loop-i.invariant in
-    (omega (arith, p, i.0), p.1, omega (arith, p, i.1), p.3)
-
-pub loop-i-preserved : goal.loop-i-preserved
-loop-i-preserved c =
-    let l = c.loop-i in
+pub loop-row-preserved : goal.loop-row-preserved
+loop-row-preserved c =
+    let a = c.args in
+    let l = c.loop-row in
     let u = c.end_row-run in
-    (u.auto.wp ∙ l.invariant.0, u.auto.wl ∙ l.invariant.1, ending_on c.args.used l.i l.invariant.2 u.result c.loop-i-test.true c.requires.1 u.ensures)
-
-pub shape_of-wp : goal.shape_of-wp
-shape_of-wp c = c.loop-i.invariant.0
-
-pub shape_of-wl : goal.shape_of-wl
-shape_of-wl c = c.loop-i.invariant.1
+    let i : l.row-index < a.used = omega (arith, c.loop-row-test.true, length-take a.used a.rows) in (
+      u.auto.wp ∙ l.invariant.0,
+      u.auto.wl ∙ l.invariant.1,
+      ending_on a.used l.row-index l.invariant.2 u.result i c.requires.1
+          (subst (λ (r : Row). EndsTurn a.n a.m l.wp l.wl u.new.wp u.new.wl l.run r u.result) (get_or-take a.used a.rows l.row-index no_row i) u.ensures),
+    )
 
 pub returns : goal.returns
-returns c s bs h e q = let l = c.loop-i in ending_end c.args.used l.i l.invariant.2 (omega (arith, c.loop-i-test.false)) s bs h e q
+returns c s bs h e q =
+    let l = c.loop-row in
+    ending_end c.args.used l.row-index l.invariant.2 (omega (arith, c.loop-row-test.false, length-take c.args.used c.args.rows)) s bs h e q

@@ -1,6 +1,5 @@
 -- `mark_all`: row after row; the rows say what the log says so far.
 use mathlib.Core.Path.{refl, ◌∙◌}
-use Prim.Native.Nat.{◌-◌}
 use native.Mathlib.Omega.{arith}
 use Rattle.call_undo.specs.Marking.{marking_start, marking_on, marking_end}
 use Rattle.call_undo.proofs.mark_all.Goals as goal

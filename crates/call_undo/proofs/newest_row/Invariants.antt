@@ -1,10 +1,7 @@
--- `newest_row`: the top of the rows so far.
-use Prim.Native.Nat.{◌≤◌, ◌-◌}
-use Rattle.call_undo.specs.Due.{TopTo}
+-- `newest_row`: the first of the rows so far with the largest number due.
+use Rattle.std.specs.List.{IsFirstMaxByKey}
+use Rattle.def_layout.specs.declared.Row.{Row}
 use Rattle.call_undo.proofs.newest_row.Given as goal
 
 abbrev pub invariant-loop-i : goal.invariant-loop-i
-invariant-loop-i l = (l.i ≤ 8) × TopTo l.rows l.i l.p
-
-abbrev pub decreases-loop-i : goal.decreases-loop-i
-decreases-loop-i l = 8 - l.i
+invariant-loop-i l = IsFirstMaxByKey (λ (r : Row). r.undo) l.rows l.i l.p

@@ -6,19 +6,10 @@ use Rattle.call_undo.specs.Lines.{undoes_start, undoes_on, undoes_end}
 use Rattle.call_undo.proofs.undo_above.Goals as goal
 
 pub loop-left-init : goal.loop-left-init
-loop-left-init c = let a = c.args in (refl, refl, undoes_start a.mark a.row)
+loop-left-init c = let a = c.args in (refl, refl, refl, undoes_start a.mark a.row)
 
-pub shape_of-wp-then-at-mark : goal.shape_of-wp-then-at-mark
-shape_of-wp-then-at-mark c = c.loop-left.invariant.0
-
-pub shape_of-wl-then-at-mark : goal.shape_of-wl-then-at-mark
-shape_of-wl-then-at-mark c = c.loop-left.invariant.1
-
-pub returns-then-at-mark : goal.returns-then-at-mark
-returns-then-at-mark c =
-    let a = c.args in
-    let i = c.loop-left in
-    undoes_end a.mark a.row i.last i.at i.left i.invariant.2 _ refl (inl c.if-at-mark.true)
+pub returns-then-row-mark : goal.returns-then-row-mark
+returns-then-row-mark c = let a = c.args in let i = c.loop-left in undoes_end a.mark a.row i.row i.invariant.3 _ refl (inl c.if-row-mark.true)
 
 pub line_at-x-requires : goal.line_at-x-requires
 line_at-x-requires c =
@@ -39,17 +30,12 @@ loop-left-preserved c =
     let u = c.undo_line-run in (
       u.auto.wp ∙ l.invariant.0,
       u.auto.wl ∙ l.invariant.1,
-      undoes_on a.mark a.row l.last l.at l.left l.invariant.2 u.result c.line_at-x.result (λ z. omega (arith, z, c.loop-left-test.true)) (omega (arith, c.if-at-mark.false)) c.line_at-x.ensures u.ensures,
+      refl,
+      undoes_on a.mark a.row l.row l.invariant.3 u.result c.line_at-x.result _ (omega (arith, l.invariant.2, c.loop-left-test.true)) (omega (arith, c.if-row-mark.false)) c.line_at-x.ensures u.ensures,
     )
-
-pub shape_of-wp : goal.shape_of-wp
-shape_of-wp c = c.loop-left.invariant.0
-
-pub shape_of-wl : goal.shape_of-wl
-shape_of-wl c = c.loop-left.invariant.1
 
 pub returns : goal.returns
 returns c =
     let a = c.args in
     let i = c.loop-left in
-    undoes_end a.mark a.row i.last i.at i.left i.invariant.2 _ refl (inr (omega (arith, c.loop-left-test.false)))
+    undoes_end a.mark a.row i.row i.invariant.3 _ refl (inr (omega (arith, i.invariant.2, c.loop-left-test.false)))

@@ -5,7 +5,4 @@ use Rattle.call_undo.specs.Lines.{Undoes}
 use Rattle.call_undo.proofs.undo_above.Given as goal
 
 abbrev pub invariant-loop-left : goal.invariant-loop-left
-invariant-loop-left l = (length l.wp ≡ length l.initial.wp) × (length l.wl ≡ length l.initial.wl) × Undoes l.n l.m l.initial.wp l.initial.wl l.wp l.wl l.initial.run l.run l.mark l.row l.last l.at l.left
-
-abbrev pub decreases-loop-left : goal.decreases-loop-left
-decreases-loop-left l = l.left
+invariant-loop-left l = (length l.wp ≡ length l.initial.wp) × (length l.wl ≡ length l.initial.wl) × (l.row.pending ≡ l.left) × Undoes l.n l.m l.initial.wp l.initial.wl l.wp l.wl l.initial.run l.run l.mark l.initial.row l.row

@@ -5,9 +5,9 @@ use Rattle.call_undo.proofs.undo_newest.Goals as goal
 pub returns-then-row-ne1 : goal.returns-then-row-ne1
 returns-then-row-ne1 c s l b y ys h g f e o k =
     let a = c.args in
-    line_left a.row c.line_at-x.result c.line_at-x.ensures c.undo_line-u.ensures s l b y ys h g f e o k c.if-row-ne1.true
+    line_left a.row c.line_at-line.result c.line_at-line.ensures c.undo_line-u.ensures s l b y ys h g f e o k c.if-row-ne1.true
 
 pub returns : goal.returns
 returns c s l b y ys h g f e o k =
     let a = c.args in
-    line_last a.row c.line_at-x.result c.line_at-x.ensures c.undo_line-u.ensures s l b y ys h g f e o k c.if-row-ne1.false c.end_batch-run.ensures
+    line_last a.row c.line_at-line.result c.line_at-line.ensures c.undo_line-u.ensures s l b y ys h g f e o k c.if-row-ne1.false c.end_batch-run.ensures

@@ -1,20 +1,12 @@
--- `is_zero`: the answer so far, and the answer for the rest, make the answer.
-use borrow.Author.Rules.{rules}
-use native.Mathlib.Omega.{arith}
-use Prim.Native.Nat.{◌-◌}
-use mathlib.Core.Path.{refl}
-use Rattle.law_bytes.specs.Same.{zeros_turn, zeros_end}
+-- `is_zero`: byte after byte.
+use Rattle.std.proofs.Common.{◌≡◌, refl, subst, length, rules}
+use Rattle.std.proofs.lemmas.Fn.{fold_over, slice_gives, fronts}
+use Rattle.def_layout.specs.Numbers.{same_bytes, zeros}
+use Rattle.codec_bytes.proofs.Bytes.{clear_next}
 use Rattle.codec_bytes.proofs.is_zero.Goals as goal
 
-pub loop-i-init : goal.loop-i-init
-loop-i-init c = (search rules, refl, refl)
-
-pub loop-i-preserved : goal.loop-i-preserved
-loop-i-preserved c =
-    let l = c.loop-i in
-    (search rules, search rules, zeros_turn l.clear c.args.s.now l.i l.invariant.2 _ (omega arith) c.still_same-clear.ensures)
-
 pub returns : goal.returns
-returns c =
-    let l = c.loop-i in
-    zeros_end l.clear c.args.s.now l.i l.invariant.2 (omega arith)
+unfolding same_bytes
+returns c = subst (λ l. c.fold.result ≡ same_bytes (zeros (length l)) l) c.iter.ensures.rest
+    (fold_over fronts (λ y. y.now) _ (λ ys b. b ≡ same_bytes (zeros (length ys)) ys) _ (λ ys a x b f' j k. let next = clear_next ys x.now in search rules)
+    _ _ _ _ (slice_gives c.iter.result) refl c.fold.ensures.ran)

@@ -1,19 +1,13 @@
--- `set32` stores four bytes in a row, which is one patch.
-use native.Mathlib.Omega.{arith}
-use lib.ListN.{length-set}
+-- `set32`: the four bytes are one patch.
+use Rattle.std.proofs.Common.{◌≡◌, refl, ◌∙◌}
+use Prim.Native.Nat.{◌+◌}
 use Rattle.def_layout.specs.Numbers.{put32}
-use Rattle.law_bytes.specs.Patch.{stores4}
+use Rattle.law_bytes.specs.Patch.{patch_back}
 use Rattle.codec_bytes.proofs.set32.Goals as goal
-
-pub bounds-s-i-2 : goal.bounds-s-i-2
-bounds-s-i-2 c = simp length-set (omega arith)
-
-pub bounds-s-i-3 : goal.bounds-s-i-3
-bounds-s-i-3 c = simp length-set (omega arith)
-
-pub bounds-s-i-4 : goal.bounds-s-i-4
-bounds-s-i-4 c = simp length-set (omega arith)
 
 pub returns : goal.returns
 unfolding put32
-returns c = stores4 _ _ _ _ _ _ c.requires
+returns c =
+    let a = c.args in
+    let e : c.copy_from_slice.new.self ≡ put32 a.x = c.copy_from_slice.ensures.after ∙ c.to_be_bytes.ensures in
+    rw e (patch_back a.s.now a.i (a.i + 4) (put32 a.x) refl)

@@ -1,22 +1,12 @@
--- `get_desk`: after i turns the first i rows are read.
-use borrow.Author.Rules.{rules}
-use native.Mathlib.Omega.{arith}
-use Prim.Native.Nat.{◌-◌}
-use mathlib.Core.Path.{ap}
-use lib.ListN.{length}
-use Rattle.law_bytes.specs.Tables.{tab_none, tab_step, tab_end}
+-- `get_desk`: the rows are the table of what is read row by row.
+use Rattle.std.proofs.Common.{rules}
+use Rattle.def_layout.specs.Desks.{no_row, read_row}
 use Rattle.law_bytes.specs.DeskBytes.{desk_parts}
+use Rattle.codec_bytes.specs.Made.{made}
 use Rattle.codec_desk.proofs.get_desk.Goals as goal
-
-pub loop-i-init : goal.loop-i-init
-loop-i-init c = (search rules, ap length c.no_rows-rows.ensures, tab_none _ _)
-
-pub loop-i-preserved : goal.loop-i-preserved
-loop-i-preserved c =
-    let l = c.loop-i in
-    (search rules, l.invariant.1, tab_step l.i _ _ _ _ (search rules) l.invariant.2 c.get_row.ensures)
 
 pub returns : goal.returns
 returns c =
-    let l = c.loop-i in
-    desk_parts c.args.b.now _ _ _ (tab_end 8 l.i _ _ _ l.invariant.1 (omega arith) l.invariant.2) c.get32.ensures c.get32-2.ensures
+    let b = c.args.b.now in
+    let m = made _ _ (read_row b) 8 no_row (λ j y q h k. search rules) c.from_fn.result c.from_fn.ensures.items in
+    desk_parts b _ _ _ m c.get32.ensures c.get32-2.ensures

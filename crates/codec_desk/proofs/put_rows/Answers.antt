@@ -1,7 +1,7 @@
 -- `put_rows`: after i turns the first i rows are written.
 use borrow.Author.Rules.{rules}
 use native.Mathlib.Omega.{arith}
-use Prim.Native.Nat.{ℕ, ◌-◌, ◌+◌, ◌*◌}
+use Prim.Native.Nat.{ℕ, ◌+◌, ◌*◌}
 use mathlib.Core.Path.{◌≡◌, refl, ◌∙◌, ap}
 use Rattle.def_layout.specs.Numbers.{chunks}
 use Rattle.def_layout.specs.Desks.{row_at, row_bytes}

@@ -1,5 +1,5 @@
 -- `put_rows`: after i turns the first i rows are written.
-use Prim.Native.Nat.{◌≤◌, ◌-◌}
+use Prim.Native.Nat.{◌≤◌}
 use mathlib.Core.Path.{◌≡◌}
 use lib.ListN.{length}
 use Rattle.def_layout.specs.Numbers.{chunks}
@@ -8,7 +8,4 @@ use Rattle.law_bytes.specs.Patch.{patch}
 use Rattle.codec_desk.proofs.put_rows.Given as goal
 
 abbrev pub invariant-loop-i : goal.invariant-loop-i
-invariant-loop-i l = (l.i ≤ 8) × (length l.b ≡ length l.initial.b) × (l.b ≡ patch l.initial.b 0 (chunks l.i (λ i. row_bytes (row_at l.rows i))))
-
-abbrev pub decreases-loop-i : goal.decreases-loop-i
-decreases-loop-i l = 8 - l.i
+invariant-loop-i l = (l.i ≤ 8) × (length l.b ≡ length l.initial.b) × (l.b ≡ patch l.initial.b 0 (chunks l.i (λ i. row_bytes (row_at l.row-items i))))

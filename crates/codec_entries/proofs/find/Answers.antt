@@ -1,9 +1,7 @@
 -- `find`: no entry before i is the one, so the place is i and the place in the rest.
 use borrow.Author.Rules.{rules}
 use native.Mathlib.Omega.{arith}
-use Prim.Native.Nat.{◌-◌}
-use mathlib.Core.Path.{sym}
-use Rattle.def_layout.specs.Entries.{place}
+use mathlib.Core.Path.{◌≡◌, sym, ◌∙◌}
 use Rattle.codec_entries.specs.Turns.{find_more, find_here, find_none}
 use Rattle.codec_entries.proofs.find.Goals as goal
 
@@ -26,4 +24,5 @@ pub returns : goal.returns
 returns c =
     let a = c.args in
     let l = c.loop-place in
-    (sym (find_none a.es a.n a.k l.place _ (omega arith) l.invariant.1), omega arith)
+    let e : a.n ≡ l.place = omega arith in
+    (e ∙ sym (find_none a.es a.n a.k l.place _ (omega arith) l.invariant.1), omega arith)

@@ -1,28 +1,17 @@
 -- `write_entries`: after i turns the first i of the 14 are written, those past the last as zeros.
 use borrow.Author.Rules.{rules}
 use native.Mathlib.Omega.{arith}
-use Prim.Native.Nat.{◌-◌, ◌+◌, ◌*◌}
-use mathlib.Core.Path.{◌≡◌, refl, sym, ◌∙◌, ap}
+use Prim.Native.Nat.{◌+◌, ◌*◌}
+use mathlib.Core.Path.{◌≡◌, refl, ◌∙◌, ap}
 use Rattle.def_layout.specs.Entries.{entry_at}
 use Rattle.def_layout.specs.Numbers.{chunks, entry_bytes, entries_bytes}
 use Rattle.law_bytes.specs.Patch.{patch}
 use Rattle.law_bytes.specs.Chunks.{chunks_none, chunks_more}
-use Rattle.law_bytes.specs.EntryBytes.{used, used_in, used_past, entry_bytes_length}
+use Rattle.law_bytes.specs.EntryBytes.{used, entry_bytes_length}
 use Rattle.codec_entries.proofs.write_entries.Goals as goal
 
 pub loop-i-init : goal.loop-i-init
 loop-i-init c = (search rules, refl, chunks_none _ _ _)
-
-pub loop-i-preserved-then-i-n : goal.loop-i-preserved-then-i-n
-loop-i-preserved-then-i-n c =
-    let l = c.loop-i in
-    let a = c.args in (
-      search rules,
-      search rules,
-      c.write_entry.ensures
-          ∙ ap (λ e. patch l.b (a.from + 8 * l.i) (entry_bytes e)) (sym (used_in a.n l.i a.es c.if-i-n.true))
-          ∙ chunks_more a.b.now l.b a.from l.i 8 _ (λ i. entry_bytes_length (entry_at (used a.n a.es) i)) (omega arith) l.invariant.2,
-    )
 
 pub loop-i-preserved : goal.loop-i-preserved
 loop-i-preserved c =
@@ -30,8 +19,8 @@ loop-i-preserved c =
     let a = c.args in (
       search rules,
       search rules,
-      c.write_entry-in-loop-i.ensures
-          ∙ ap (λ e. patch l.b (a.from + 8 * l.i) (entry_bytes e)) (sym (used_past a.n l.i a.es c.if-i-n.false))
+      c.write_entry.ensures
+          ∙ ap (λ e. patch l.b (a.from + 8 * l.i) (entry_bytes e)) c.entry_in.ensures
           ∙ chunks_more a.b.now l.b a.from l.i 8 _ (λ i. entry_bytes_length (entry_at (used a.n a.es) i)) (omega arith) l.invariant.2,
     )
 

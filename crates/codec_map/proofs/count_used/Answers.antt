@@ -18,22 +18,20 @@ overflow_add-s c =
 
 pub loop-p-smaller : goal.loop-p-smaller
 loop-p-smaller c =
-    let pos = c.at_most_32-k.ensures.2 (omega arith) in
-    omega arith
+    omega (arith, c.min-k.ensures)
 
 pub loop-p-preserved : goal.loop-p-preserved
 loop-p-preserved c =
     let a = c.args in
     let l = c.loop-p in
     let m = l.invariant.1 c.loop-p-test.true in
-    let k = c.at_most_32-k.result in
-    let full = c.at_most_32-k.ensures.3 in
+    let k = c.min-k.result in
     let e : 32 * (l.p / 32) ≡ l.p = omega arith in
     let small : c.map_word.result < 2 ^ 32 = search rules in
     let run = ones_run a.es (l.p / 32) k c.map_word.result (omega arith) (search rules) c.map_word.ensures small in
     let word = c.ones_in-s.ensures.0 ∙ run ∙ ap (λ (q : ℕ). ones (take k (drop q (marks a.es)))) e in (
       search rules,
-      λ h. let whole = full (omega arith) in (omega arith, omega arith),
+      λ h. (omega arith, omega arith),
       ones_more a.es l.p k l.s c.ones_in-s.result l.invariant.2 word,
     )
 

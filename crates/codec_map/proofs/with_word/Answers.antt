@@ -12,8 +12,8 @@ returns-then-j-eq0 c =
     let h : length a.es ≡ 14 = search rules in
     key_set a.es a.j a.w (omega arith) c.if-j-eq0.true
 
-pub returns : goal.returns
-returns c =
+pub returns-else-j-eq0 : goal.returns-else-j-eq0
+returns-else-j-eq0 c =
     let a = c.args in
     let h : length a.es ≡ 14 = search rules in
     val_set a.es a.j a.w (omega arith) c.if-j-eq0.false

@@ -1,17 +1,17 @@
 -- `is_spare_zero`: test by test.
-use Prim.Native.Nat.{◌/◌}
-use borrow.Author.Tests.{not-true, not-false, eq-eqb, ne_eqb}
+use mathlib.Core.Path.{sym, ◌∙◌}
 use Rattle.codec_page.specs.Working.{spare_zero}
 use Rattle.codec_page.proofs.is_spare_zero.Goals as goal
+use Rattle.codec_page.proofs.is_spare_zero.Goals.{else-working-via-then-working+else-is_leaf, else-working-via-else-working}
 
-pub returns-then-not-working : goal.returns-then-not-working
+pub returns-then-is_leaf : goal.returns-then-is_leaf
 unfolding spare_zero
-returns-then-not-working c = let a = c.args in rw (not-true a.working c.if-not-working.true-raw)
-
-pub returns-then-w-ne-LEAF : goal.returns-then-w-ne-LEAF
-unfolding spare_zero
-returns-then-w-ne-LEAF c = let a = c.args in rw (not-false a.working c.if-not-working.false-raw, ne_eqb (a.w / 1073741824) 1 c.if-w-ne-LEAF.true)
+returns-then-is_leaf c = let w = c.if-working.true in let l = sym c.is_leaf.ensures ∙ c.if-is_leaf.true in rw (w, l)
 
 pub returns : goal.returns
 unfolding spare_zero
-returns c = let a = c.args in rw (not-false a.working c.if-not-working.false-raw, eq-eqb (a.w / 1073741824) 1 c.if-w-ne-LEAF.false)
+returns c =
+    elim c.else-working.branch [
+      | else-working-via-then-working+else-is_leaf w ↦ let l = sym w.is_leaf.ensures ∙ w.if-is_leaf.false in let t = w.if-working.true in rw (t, l)
+      | else-working-via-else-working w ↦ let t = w.if-working.false in rw t
+    ]

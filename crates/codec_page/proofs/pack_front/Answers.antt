@@ -1,10 +1,20 @@
--- `pack_front`: by the kind, the map's count being zero.
-use mathlib.Core.Path.{sym}
-use Rattle.codec_page.specs.Shown.{front_word_node, front_word_map}
+-- `pack_front`: the map's count is zero; and all fields fit a word.
+use native.Mathlib.Omega.{arith}
+use Rattle.law_bytes.specs.PageKinds.{kind_lt}
+use Rattle.codec_page.specs.Shown.{front_word_of}
 use Rattle.codec_page.proofs.pack_front.Goals as goal
 
-pub returns-then-p-lt3 : goal.returns-then-p-lt3
-returns-then-p-lt3 c = sym (front_word_node c.args.p c.if-p-lt3.true)
+pub overflow_mul-result : goal.overflow_mul-result
+overflow_mul-result c = omega (arith, c.from.ensures, kind_lt c.args.p.kind)
+
+pub overflow_add-result : goal.overflow_add-result
+overflow_add-result c = omega (arith, c.from.ensures, kind_lt c.args.p.kind)
+
+pub overflow_add-result-2 : goal.overflow_add-result-2
+overflow_add-result-2 c = omega (arith, c.from.ensures, kind_lt c.args.p.kind)
+
+pub overflow_add-result-3 : goal.overflow_add-result-3
+overflow_add-result-3 c = omega (arith, c.from.ensures, kind_lt c.args.p.kind)
 
 pub returns : goal.returns
-returns c = sym (front_word_map c.args.p c.if-p-lt3.false)
+returns c = front_word_of c.args.p _ _ c.from.ensures c.size_of.ensures.0

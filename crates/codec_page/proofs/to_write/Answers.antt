@@ -1,12 +1,11 @@
 -- `to_write`: by the kind.
-use Rattle.codec_page.specs.Typed.{written}
-use borrow.Author.Tests.{lt-ltb, le-ltb}
+use Rattle.codec_page.specs.Typed.{written, has_marks, marks_none}
 use Rattle.codec_page.proofs.to_write.Goals as goal
 
-pub returns-then-p-lt3 : goal.returns-then-p-lt3
-unfolding written
-returns-then-p-lt3 c = rw (lt-ltb _ _ c.if-p-lt3.true)
+pub returns-in-Map : goal.returns-in-Map
+unfolding written has_marks
+returns-in-Map c = let k = c.in-Map.is in rw k
 
-pub returns : goal.returns
+pub returns-in_default : goal.returns-in_default
 unfolding written
-returns c = rw (le-ltb _ _ c.if-p-lt3.false)
+returns-in_default c = let k = marks_none c.args.p.kind c.in_default.not-Map in rw k

@@ -1,7 +1,6 @@
 -- `unmarked_from`: no page from n to i is marked, so the answer is the answer for the rest; a word without a mark is 32 of them.
 use borrow.Author.Rules.{rules}
 use native.Mathlib.Omega.{arith}
-use Prim.Native.Nat.{◌-◌}
 use mathlib.Core.Path.{refl, sym, ◌∙◌}
 use Rattle.codec_page.specs.Layouts.{unmarked_more, unmarked_word, marked_here, unmarked_none}
 use Rattle.codec_page.proofs.unmarked_from.Goals as goal

@@ -5,11 +5,11 @@ use Rattle.law_bytes.specs.RecordBytes.{number_zero, number_past, number_back}
 use mathlib.Core.Path.{sym}
 use Rattle.codec_slot.proofs.kind_number.Goals as goal
 
-pub returns-then-k-eq0 : goal.returns-then-k-eq0
-returns-then-k-eq0 c = (sym (number_zero _ c.if-k-eq0.true), search rules, search rules)
+pub returns-in-1-to-15 : goal.returns-in-1-to-15
+returns-in-1-to-15 c = (sym (number_back c.args.k (omega arith) (omega arith)), omega arith, omega arith)
 
-pub returns-then-k-gt15 : goal.returns-then-k-gt15
-returns-then-k-gt15 c = (sym (number_past _ c.if-k-gt15.true), search rules, search rules)
+pub returns-in_default : goal.returns-in_default
+returns-in_default c = (sym (number_zero _ (omega arith)), search rules, search rules)
 
-pub returns : goal.returns
-returns c = (sym (number_back c.args.k (omega arith) (omega arith)), omega arith, omega arith)
+pub returns-in_default-2 : goal.returns-in_default-2
+returns-in_default-2 c = (sym (number_past _ (omega arith)), search rules, search rules)

@@ -8,7 +8,4 @@ use Rattle.codec_slot.specs.Typed.{word_bytes}
 use Rattle.codec_slot.proofs.write_words.Given as goal
 
 abbrev pub invariant-loop-i : goal.invariant-loop-i
-invariant-loop-i l = (l.i ≤ 8) × (length l.area ≡ length l.initial.area) × (l.area ≡ patch l.initial.area 0 (chunks l.i (word_bytes l.words)))
-
-abbrev pub decreases-loop-i : goal.decreases-loop-i
-decreases-loop-i l = 8 - l.i
+invariant-loop-i l = (l.i ≤ 8) × (length l.area ≡ length l.initial.area) × (l.area ≡ patch l.initial.area 0 (chunks l.i (word_bytes l.word-items)))

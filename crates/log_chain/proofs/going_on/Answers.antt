@@ -1,19 +1,21 @@
 -- `going_on`: its place, its mark and its last record, one after the other.
-use borrow.Author.Rules.{rules}
 use Rattle.log_chain.specs.Steps.{going_nowhere, going_marked, going_elsewhere, going_on}
 use Rattle.log_chain.proofs.going_on.Goals as goal
 
-pub returns-then-i-eq8 : goal.returns-then-i-eq8
-returns-then-i-eq8 c = let a = c.args in (search rules, going_nowhere a.rows a.marked a.t _ c.open_place-i.ensures.1 c.if-i-eq8.true)
+pub returns-in_err-i-clause-goes : goal.returns-in_err-i-clause-goes
+returns-in_err-i-clause-goes c = let a = c.args in rw c.from_residual.ensures (going_nowhere a.batches.now a.t c.in_err-i.ensures.places)
 
-pub returns-then-marked-i : goal.returns-then-marked-i
-returns-then-marked-i c = let a = c.args in (search rules, going_marked a.rows a.marked a.t _ c.open_place-i.ensures.1 c.if-marked-i.true)
-
-pub returns-then-rows-i : goal.returns-then-rows-i
-returns-then-rows-i c = let a = c.args in (search rules, going_elsewhere a.rows a.marked a.t _ c.open_place-i.ensures.1 c.if-rows-i.true)
-
-pub returns : goal.returns
-returns c =
+pub returns-then-batches-i-clause-goes : goal.returns-then-batches-i-clause-goes
+returns-then-batches-i-clause-goes c =
     let a = c.args in
-    let g = c.open_place-i.ensures in
-    (g.0, going_on a.rows a.marked a.t _ g.1 c.if-i-eq8.false c.if-marked-i.false c.if-rows-i.false)
+    going_marked a.batches.now a.t _ c.in_ok-i.ensures.places c.if-batches-i.true
+
+pub returns-then-batches-i-2-clause-goes : goal.returns-then-batches-i-2-clause-goes
+returns-then-batches-i-2-clause-goes c =
+    let a = c.args in
+    going_elsewhere a.batches.now a.t _ c.in_ok-i.ensures.places c.if-batches-i-2.true
+
+pub returns-clause-goes : goal.returns-clause-goes
+returns-clause-goes c =
+    let a = c.args in
+    going_on a.batches.now a.t _ c.in_ok-i.ensures.places c.if-batches-i.false c.if-batches-i-2.false

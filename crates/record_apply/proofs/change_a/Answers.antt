@@ -1,8 +1,9 @@
 -- `change_a`: arm by arm, each by the entries that its step yields.
-use Rattle.record_apply.proofs.change_a.Goals.{in_default-via-then-kind-lt2, in_default-via-else-kind-lt2+else-kind-lt5}
-use Rattle.std.proofs.Common.{arith}
+use Rattle.record_apply.proofs.change_a.Goals.{in_default-via-then-r-lt2, in_default-via-else-r-lt2+else-r-lt5}
+use Rattle.std.proofs.Common.{arith, ap, ◌∙◌, List, ◌++◌, take}
+use Rattle.def_layout.specs.declared.Entry.{Entry}
+use Rattle.law_bytes.specs.EntryBytes.{used}
 use Rattle.record_apply.specs.Changes.{a_insert, a_delete, a_undo_delete, a_split, a_link, a_unlink, a_merge, a_share, a_raise, a_lower, a_low, a_other}
-use mathlib.Core.Logic.{inl, inr}
 use Rattle.record_apply.proofs.change_a.Goals as goal
 
 pub returns-in-2 : goal.returns-in-2
@@ -33,7 +34,7 @@ returns-in-11 c =
 pub returns-in-12 : goal.returns-in-12
 returns-in-12 c =
     let a = c.args in
-    a_merge a.r a.x _ _ c.in-12.is c.join.ensures.0 c.renew-in-12.ensures
+    a_merge a.r a.x _ _ c.in-12.is (c.join.ensures.0 ∙ ap (λ (l : List Entry). take 14 (used a.x.count a.x.entries ++ l)) c.carried.ensures.0) c.renew-in-12.ensures
 
 pub returns-in-13 : goal.returns-in-13
 returns-in-13 c =
@@ -55,6 +56,6 @@ pub returns-in_default : goal.returns-in_default
 returns-in_default c =
     let a = c.args in
     elim c.in_default.branch [
-      | in_default-via-then-kind-lt2 w ↦ a_low a.r a.x _ (omega arith) c.cut.ensures
-      | in_default-via-else-kind-lt2+else-kind-lt5 w ↦ a_other a.r a.x _ (omega arith) (omega arith) (omega arith) (omega arith) (omega arith) (omega arith) (omega arith) (omega arith) (omega arith) c.cut.ensures
+      | in_default-via-then-r-lt2 w ↦ a_low a.r a.x _ (omega arith) c.cut.ensures
+      | in_default-via-else-r-lt2+else-r-lt5 w ↦ a_other a.r a.x _ (omega arith) (omega arith) (omega arith) (omega arith) (omega arith) (omega arith) (omega arith) (omega arith) (omega arith) c.cut.ensures
     ]

@@ -6,8 +6,8 @@ use Rattle.record_check.proofs.on_one_side.Goals as goal
 
 pub returns-then-all_on : goal.returns-then-all_on
 unfolding one_side on_side
-returns-then-all_on c = rw (sym c.all_on.ensures ∙ c.if-all_on.true)
+returns-then-all_on c = c.if-all_on.true ∙ rw (sym c.all_on.ensures ∙ c.if-all_on.true)
 
-pub returns : goal.returns
+pub returns-else-all_on : goal.returns-else-all_on
 unfolding one_side on_side
-returns c = c.all_on-2.ensures ∙ rw (sym c.all_on.ensures ∙ c.if-all_on.false)
+returns-else-all_on c = c.all_on-else-all_on.ensures ∙ rw (sym c.all_on.ensures ∙ c.if-all_on.false)

@@ -6,6 +6,6 @@ pub returns-then-low : goal.returns-then-low
 unfolding on_side
 returns-then-low c = rw c.if-low.true
 
-pub returns : goal.returns
+pub returns-else-low : goal.returns-else-low
 unfolding on_side
-returns c = rw c.if-low.false
+returns-else-low c = rw c.if-low.false

@@ -1,19 +1,13 @@
--- `mark_fits`: no marks, a page number past them, or the mark.
-use Rattle.record_fit.specs.Rows.{mark_node, mark_past, mark_taken, mark_freed}
+-- `mark_fits`: no marks, or the map's.
+use mathlib.Core.Bool.{Bool}
+use mathlib.Core.List.{List}
+use mathlib.Core.Path.{ap, sym, ◌∙◌}
+use Rattle.def_model.specs.Fit.{fits_map}
+use Rattle.record_fit.specs.Rows.{marks_map, mark_node}
 use Rattle.record_fit.proofs.mark_fits.Goals as goal
 
-pub returns-then-x-lt3 : goal.returns-then-x-lt3
-returns-then-x-lt3 c = let a = c.args in mark_node a.x a.q a.taken c.if-x-lt3.true
+pub returns-in-Map : goal.returns-in-Map
+returns-in-Map c = let a = c.args in c.bit_fits.ensures ∙ ap (λ (m : List Bool). fits_map a.taken a.q m) (sym (marks_map a.x c.in-Map.is))
 
-pub returns-then-q-ge-MOST_PAGES : goal.returns-then-q-ge-MOST_PAGES
-returns-then-q-ge-MOST_PAGES c = let a = c.args in mark_past a.x a.q a.taken c.if-x-lt3.false c.if-q-ge-MOST_PAGES.true
-
-pub returns-then-taken : goal.returns-then-taken
-returns-then-taken c =
-    let a = c.args in
-    mark_taken a.x a.q a.taken c.if-x-lt3.false c.if-q-ge-MOST_PAGES.false c.if-taken.true c.marked-used.result c.marked-used.ensures
-
-pub returns : goal.returns
-returns c =
-    let a = c.args in
-    mark_freed a.x a.q a.taken c.if-x-lt3.false c.if-q-ge-MOST_PAGES.false c.if-taken.false c.marked-used.result c.marked-used.ensures
+pub returns-in_default : goal.returns-in_default
+returns-in_default c = let a = c.args in mark_node a.x a.q a.taken c.in_default.not-Map

@@ -1,20 +1,20 @@
--- `page_at`: by the kind, and by the count.
+-- `page_at`: by the kind.
 use borrow.Author.Rules.{rules}
 use native.Mathlib.Omega.{arith}
-use Rattle.record_pages.specs.Pages.{reads_map, reads_many, reads_node}
+use mathlib.Core.Path.{subst, sym}
+use Prim.Native.Nat.{ℕ}
+use mathlib.Core.List.{List}
+use Rattle.def_layout.specs.Pages.{Page, at}
+use Rattle.record_pages.specs.Pages.{Pages, Reads, reads_map, reads_node, with_count}
 use Rattle.record_pages.proofs.page_at.Goals as goal
 
-pub returns-then-x-ge3 : goal.returns-then-x-ge3
-returns-then-x-ge3 c =
-    let a = c.args in
-    (search rules, reads_map a.p _ c.nth_page-x.ensures c.if-x-ge3.true)
+pub returns-in-Map : goal.returns-in-Map
+returns-in-Map c = (search rules, reads_map c.args.p _ c.nth_page-x.ensures c.in-Map.is)
 
-pub returns-then-x-gt-MOST_ENTRIES : goal.returns-then-x-gt-MOST_ENTRIES
-returns-then-x-gt-MOST_ENTRIES c =
-    let a = c.args in
-    (search rules, reads_many a.p _ c.nth_page-x.ensures (omega (arith, c.if-x-ge3.false)) c.if-x-gt-MOST_ENTRIES.true)
-
-pub returns : goal.returns
-returns c =
-    let a = c.args in
-    (search rules, reads_node a.p _ c.nth_page-x.ensures (omega (arith, c.if-x-ge3.false)))
+pub returns-in_default : goal.returns-in_default
+returns-in_default c =
+    let x = c.nth_page-x in (
+      omega arith,
+      λ xs ls h.
+          subst (λ (m : ℕ). Reads (with_count m x.result) (at xs c.args.p)) (sym c.min.ensures) (reads_node c.args.p _ x.ensures c.in_default.not-Map xs ls h),
+    )

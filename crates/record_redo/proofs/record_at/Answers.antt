@@ -7,7 +7,7 @@ use Rattle.record_redo.proofs.record_at.Goals as goal
 pub returns-then-i-m : goal.returns-then-i-m
 returns-then-i-m c =
     let a = c.args in
-    (c.no_record.ensures, past_tells a.m a.i a.log.now c.no_record.result c.if-i-m.true)
+    (omega (arith, c.default.ensures.1.0), past_tells a.m a.i a.log.now c.default.result c.if-i-m.true)
 
 pub returns : goal.returns
 returns c =

@@ -4,7 +4,8 @@ use Rattle.std.proofs.Common.{ap, ◌∙◌, arith}
 use Rattle.def_base.specs.Tests.{pick, lt_true, eq_true, neq_false}
 use Rattle.def_layout.specs.declared.Entry.{Entry}
 use Rattle.def_layout.specs.Sizes.{room}
-use Rattle.def_layout.specs.Pages.{leaf, index, Page, kind_at, at, size}
+use Rattle.def_layout.specs.Pages.{Page, kind_at, at, size}
+use Rattle.def_layout.specs.declared.page.PageKind.TheVariants.{Leaf, Index}
 use Rattle.def_layout.specs.Records.{Rec, split_row, link_row, unlink_row, merge_row, redistribute_row, raise_row, lower_row}
 use Rattle.def_model.specs.Change.{with_lsn, entries_in, cut_to_size, Role, as_a, as_b, as_c, as_map, role, hit, change}
 use Rattle.def_model.specs.Change
@@ -17,7 +18,7 @@ pub entries_at : (lev : ℕ) (es : List Entry) → entries_in (kind_at lev) es �
 unfolding entries_in
 entries_at lev es = by_test (eqb lev 0)
   where
-    by_test : (b : Bool) → entries_in (pick b leaf index) es ≡ take room es
+    by_test : (b : Bool) → entries_in (pick b Leaf Index) es ≡ take room es
     by_test true = refl
     by_test false = refl
 

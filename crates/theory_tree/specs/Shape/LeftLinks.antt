@@ -10,7 +10,8 @@ use Rattle.std.proofs.lemmas.List.{set-get_or, set-append_left}
 use Rattle.std.proofs.Math.Seq.{set_out}
 use Rattle.def_base.specs.Tests.{pick, Case, yes!, no!, case, and_true, and_both, true_eq, eq_true}
 use Rattle.def_layout.specs.Entries.{top}
-use Rattle.def_layout.specs.Pages.{Page, at, leaf, kind_is}
+use Rattle.def_layout.specs.Pages.{Page, at, kind_is}
+use Rattle.def_layout.specs.declared.page.PageKind.TheVariants.{Leaf}
 use Rattle.def_model.specs.TreeRules.{Node, levels_of, bottom}
 use Rattle.def_model.specs.Links.{left_at, linked, lefts_ok, relink, of_leaves, relinked}
 use Rattle.theory_tree.specs.Shape.Levels.{ChainOk}
@@ -148,10 +149,10 @@ no_leaves [] = refl
 no_leaves (x ∷ xs) = ap (0 ∷◌) (no_leaves xs)
 
 -- A page's link, where it is a leaf.
-pub of_leaves_at : (xs : List Page) (ls : List ℕ) (p : ℕ) → p < length xs → get_or (of_leaves xs ls) p 0 ≡ pick (kind_is (at xs p).kind leaf) (get_or ls p 0) 0
+pub of_leaves_at : (xs : List Page) (ls : List ℕ) (p : ℕ) → p < length xs → get_or (of_leaves xs ls) p 0 ≡ pick (kind_is (at xs p).kind Leaf) (get_or ls p 0) 0
 unfolding of_leaves
 of_leaves_at [] ls p h = absurd (omega arith)
-of_leaves_at (x ∷ xs) [] zero h = go (kind_is x.kind leaf)
+of_leaves_at (x ∷ xs) [] zero h = go (kind_is x.kind Leaf)
   where
     go : (t : Bool) → ◌≡◌ {A = ℕ} 0 (pick t 0 0)
     go true = refl
@@ -185,11 +186,11 @@ module _ (pages : List Page) (k : Rules pages (levels_of pages)) where
   leaves_inside ls = all_longer (length pages) (length (of_leaves pages ls)) (sym (of_leaves_length pages ls)) (bottom (levels_of pages)) (chain_inside pages 0 (bottom (levels_of pages)) 0 lowest.0)
 
   -- A page of the chain is a leaf, and there is such a page.
-  pub leaves_are : All (λ n. ((at pages n.page).kind ≡ leaf) × (n.page < length pages)) (bottom (levels_of pages))
+  pub leaves_are : All (λ n. ((at pages n.page).kind ≡ Leaf) × (n.page < length pages)) (bottom (levels_of pages))
   unfolding Chained All
   leaves_are = go (bottom (levels_of pages)) lowest.0
     where
-      go : (ns : List Node) → Chained pages 0 ns 0 → All (λ n. ((at pages n.page).kind ≡ leaf) × (n.page < length pages)) ns
+      go : (ns : List Node) → Chained pages 0 ns 0 → All (λ n. ((at pages n.page).kind ≡ Leaf) × (n.page < length pages)) ns
       go [] c = tt
       go (n ∷ ns) c = ((c.2.kind, c.1), go ns c.3)
 
@@ -204,15 +205,15 @@ module _ (pages : List Page) (k : Rules pages (levels_of pages)) where
   relinked_same ls e o = ap (relink 0 (bottom (levels_of pages))) e ∙ relink_same 0 (bottom (levels_of pages)) ls o
 
   -- Where every leaf is reached they follow from the pages alone.
-  pub relinked_any : ((p : ℕ) → p < length pages → kind_is (at pages p).kind leaf ≡ true → All (λ n. n.page ≢ p) (bottom (levels_of pages)) → ⊥) → (ls ms : List ℕ) → relinked pages ls ≡ relinked pages ms
+  pub relinked_any : ((p : ℕ) → p < length pages → kind_is (at pages p).kind Leaf ≡ true → All (λ n. n.page ≢ p) (bottom (levels_of pages)) → ⊥) → (ls ms : List ℕ) → relinked pages ls ≡ relinked pages ms
   unfolding relinked
   relinked_any reached ls ms =
       let a = of_leaves_length pages ls in
       let b = of_leaves_length pages ms in
       relink_any 0 (bottom (levels_of pages)) (of_leaves pages ls) (of_leaves pages ms) (omega arith) (leaves_inside ls)
-      (λ p h away. let i : p < length pages = omega arith in of_leaves_at pages ls p i ∙ go p i away (case (kind_is (at pages p).kind leaf)) ∙ sym (of_leaves_at pages ms p i))
+      (λ p h away. let i : p < length pages = omega arith in of_leaves_at pages ls p i ∙ go p i away (case (kind_is (at pages p).kind Leaf)) ∙ sym (of_leaves_at pages ms p i))
     where
-      go : (p : ℕ) → p < length pages → All (λ n. n.page ≢ p) (bottom (levels_of pages)) → Case (kind_is (at pages p).kind leaf)
-          → pick (kind_is (at pages p).kind leaf) (get_or ls p 0) 0 ≡ pick (kind_is (at pages p).kind leaf) (get_or ms p 0) 0
+      go : (p : ℕ) → p < length pages → All (λ n. n.page ≢ p) (bottom (levels_of pages)) → Case (kind_is (at pages p).kind Leaf)
+          → pick (kind_is (at pages p).kind Leaf) (get_or ls p 0) 0 ≡ pick (kind_is (at pages p).kind Leaf) (get_or ms p 0) 0
       go p i away (yes! t) = absurd (reached p i t away)
       go p i away (no! t) = rw t

@@ -6,7 +6,9 @@ use Rattle.def_base.specs.Tests.{lt_true, eq_true, le_true}
 use Rattle.def_layout.specs.declared.Entry.{Entry}
 use Rattle.def_layout.specs.Entries.{top}
 use Rattle.def_layout.specs.Sizes.{room}
-use Rattle.def_layout.specs.Pages.{PageKind, free, leaf, index, storage_map, page_kind_number, kind_is, Page, kind_at, at}
+use Rattle.def_layout.specs.Pages.{page_kind_number, kind_is, Page, kind_at, at}
+use Rattle.def_layout.specs.declared.page.PageKind.{PageKind}
+use Rattle.def_layout.specs.declared.page.PageKind.TheVariants.{Free, Leaf, Index, Map}
 use Rattle.def_model.specs.Fit.{after}
 use Rattle.def_model.specs.TreeRules.{Node, flat, first_child, collect, rising, ends_ok, node_ok, level_ok, first_page, pages_ok, least, below_ok, counted, root_least, levels_ok, walk_ok}
 use Rattle.theory_tree.specs.Order.Keys.{Rising}
@@ -44,10 +46,10 @@ level_complete b least from (n ∷ ns) c z =
 
 pub kind_complete : (k : PageKind) → kind_is k k ≡ true
 unfolding kind_is page_kind_number
-kind_complete free = refl
-kind_complete leaf = refl
-kind_complete index = refl
-kind_complete storage_map = refl
+kind_complete Free = refl
+kind_complete Leaf = refl
+kind_complete Index = refl
+kind_complete Map = refl
 
 pub pages_complete : (pages : List Page) (l : ℕ) (ns : List Node) → Chained pages l ns 0 → All (Marked pages) ns → pages_ok pages l ns ≡ true
 unfolding pages_ok Chained All

@@ -5,7 +5,9 @@ use Rattle.def_base.specs.Tests.{pick, clash, true_lt, true_eq, true_le, and_tru
 use Rattle.def_layout.specs.declared.Entry.{Entry}
 use Rattle.def_layout.specs.Entries.{top}
 use Rattle.def_layout.specs.Sizes.{room}
-use Rattle.def_layout.specs.Pages.{PageKind, free, leaf, index, storage_map, page_kind_number, kind_is, Page, kind_at, at}
+use Rattle.def_layout.specs.Pages.{page_kind_number, kind_is, Page, kind_at, at}
+use Rattle.def_layout.specs.declared.page.PageKind.{PageKind}
+use Rattle.def_layout.specs.declared.page.PageKind.TheVariants.{Free, Leaf, Index, Map}
 use Rattle.def_model.specs.Fit.{after}
 use Rattle.def_model.specs.TreeRules.{Node, flat, node_of, chain, first_child, collect, rising, ends_ok, node_ok, level_ok, matches, first_page, pages_ok, least, below_ok, counted, ones, root_least, levels_ok, walk_ok}
 use Rattle.theory_tree.specs.Order.Keys.{Rising}
@@ -43,22 +45,22 @@ level_sound b least from (n ∷ ns) t =
 
 pub kind_sound : (k j : PageKind) → kind_is k j ≡ true → k ≡ j
 unfolding kind_is page_kind_number
-kind_sound free free t = refl
-kind_sound free leaf t = clash (sym t)
-kind_sound free index t = clash (sym t)
-kind_sound free storage_map t = clash (sym t)
-kind_sound leaf free t = clash (sym t)
-kind_sound leaf leaf t = refl
-kind_sound leaf index t = clash (sym t)
-kind_sound leaf storage_map t = clash (sym t)
-kind_sound index free t = clash (sym t)
-kind_sound index leaf t = clash (sym t)
-kind_sound index index t = refl
-kind_sound index storage_map t = clash (sym t)
-kind_sound storage_map free t = clash (sym t)
-kind_sound storage_map leaf t = clash (sym t)
-kind_sound storage_map index t = clash (sym t)
-kind_sound storage_map storage_map t = refl
+kind_sound Free Free t = refl
+kind_sound Free Leaf t = clash (sym t)
+kind_sound Free Index t = clash (sym t)
+kind_sound Free Map t = clash (sym t)
+kind_sound Leaf Free t = clash (sym t)
+kind_sound Leaf Leaf t = refl
+kind_sound Leaf Index t = clash (sym t)
+kind_sound Leaf Map t = clash (sym t)
+kind_sound Index Free t = clash (sym t)
+kind_sound Index Leaf t = clash (sym t)
+kind_sound Index Index t = refl
+kind_sound Index Map t = clash (sym t)
+kind_sound Map Free t = clash (sym t)
+kind_sound Map Leaf t = clash (sym t)
+kind_sound Map Index t = clash (sym t)
+kind_sound Map Map t = refl
 
 -- ---- its pages
 

@@ -2,8 +2,5 @@
 use Rattle.log_judge.specs.Alone.{alone_change}
 use Rattle.log_judge.proofs.first.alone.Goals as goal
 
-pub returns-then-u : goal.returns-then-u
-returns-then-u c = let a = c.args in c.first_update-u.ensures a.next
-
 pub returns-then-is_change : goal.returns-then-is_change
-returns-then-is_change c on rs ms er em en = let a = c.args in alone_change a.n a.m a.log.now a.i a.row rs ms er (c.is_change.ensures c.if-is_change.true rs ms)
+returns-then-is_change c = let a = c.args in alone_change a.n a.m a.log.now a.i a.batches.now (c.is_change.ensures c.if-is_change.true a.batches.now)

@@ -4,14 +4,8 @@ use borrow.Author.Tests.{not-false}
 use Rattle.log_judge.specs.Updates.{tells_batch}
 use Rattle.log_judge.proofs.slots.batch_at.Goals as goal
 
-pub returns-then-n-eq0 : goal.returns-then-n-eq0
-returns-then-n-eq0 c = λ z. absurd (z c.no_told.ensures)
-
-pub returns-then-not-is_batch : goal.returns-then-not-is_batch
-returns-then-not-is_batch c = λ z. absurd (z c.no_told-then-not-is_batch.ensures)
-
 pub returns : goal.returns
 returns c =
     let a = c.args in
-    λ z. tells_batch a.n a.m a.log.now a.i _ c.told_at.ensures (λ i. (c.shared_slice_known-1.given i).fits)
-    (c.is_batch.ensures (not-false _ c.if-not-is_batch.false-raw) a.n (omega (arith, c.if-n-eq0.false)))
+    tells_batch a.n a.m a.log.now a.i _ c.told_at.ensures (λ i. (c.shared_slice_known-1.given i).fits) (omega (arith, c.if-n-eq0.false))
+    (c.is_batch.ensures (not-false _ c.if-not-is_batch.false-raw))

@@ -28,10 +28,13 @@ returns-then-w-eq-COMMIT c =
     let k = c.if-w-eq-COMMIT.true in
     let o = sym c.get32.ensures ∙ c.if-get32-number.false in
     let p = sym c.get32-2.ensures ∙ c.if-get32-ne0.false in
-    λ e n h.
-    commit_so n a.number a.b.now (λ i. (c.shared_slice_known-1.given i).fits) size (omega (arith, p)) (omega (arith, p, h)) (sym c.get32-5.ensures ∙ c.if-get32-ne0-4.false)
-    (tail_clear a.b.now size _ c.is_zero-clear.ensures e) w.result w.ensures (omega (arith, k)) (omega (arith, k)) (omega (arith, k)) o p
-    (sym c.get32-3.ensures ∙ c.if-get32-ne0-2.false) (sym c.get32-4.ensures ∙ c.if-get32-ne0-3.false)
+    λ e. record {
+      least = omega (arith, w.ensures, k);
+      plain = λ n h.
+          commit_so n a.number a.b.now (λ i. (c.shared_slice_known-1.given i).fits) size (omega (arith, p)) (omega (arith, p, h)) (sym c.get32-5.ensures ∙ c.if-get32-ne0-4.false)
+          (tail_clear a.b.now size _ c.is_zero-clear.ensures e) w.result w.ensures (omega (arith, k)) (omega (arith, k)) (omega (arith, k)) o p
+          (sym c.get32-3.ensures ∙ c.if-get32-ne0-2.false) (sym c.get32-4.ensures ∙ c.if-get32-ne0-3.false);
+    }
 
 pub returns-then-w-ne-BEGIN : goal.returns-then-w-ne-BEGIN
 returns-then-w-ne-BEGIN c = λ e. clash (sym e)
@@ -50,8 +53,11 @@ returns c =
     let k = c.if-w-ne-BEGIN.false in
     let o = sym c.get32.ensures ∙ c.if-get32-number.false in
     let p = sym c.get32-2.ensures ∙ c.if-get32-ne0.false in
-    λ e n h.
-    begin_so n a.number a.b.now (λ i. (c.shared_slice_known-1.given i).fits) size (omega (arith, p)) (omega (arith, p, h)) (sym c.get32-5.ensures ∙ c.if-get32-ne0-4.false)
-    (tail_clear a.b.now size _ c.is_zero-clear.ensures e) w.result w.ensures (omega (arith, k)) (omega (arith, k)) (omega (arith, k)) o
-    (sym c.get32-6.ensures ∙ c.if-get32-number-2.false) (sym c.get32-7.ensures ∙ c.if-get32-ne0-5.false) p
-    (sym c.get32-3.ensures ∙ c.if-get32-ne0-2.false) (sym c.get32-4.ensures ∙ c.if-get32-ne0-3.false)
+    λ e. record {
+      least = omega (arith, w.ensures, k);
+      plain = λ n h.
+          begin_so n a.number a.b.now (λ i. (c.shared_slice_known-1.given i).fits) size (omega (arith, p)) (omega (arith, p, h)) (sym c.get32-5.ensures ∙ c.if-get32-ne0-4.false)
+          (tail_clear a.b.now size _ c.is_zero-clear.ensures e) w.result w.ensures (omega (arith, k)) (omega (arith, k)) (omega (arith, k)) o
+          (sym c.get32-6.ensures ∙ c.if-get32-number-2.false) (sym c.get32-7.ensures ∙ c.if-get32-ne0-5.false) p
+          (sym c.get32-3.ensures ∙ c.if-get32-ne0-2.false) (sym c.get32-4.ensures ∙ c.if-get32-ne0-3.false);
+    }

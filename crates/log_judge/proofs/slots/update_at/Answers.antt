@@ -3,10 +3,7 @@ use borrow.Author.Tests.{not-false}
 use Rattle.log_judge.specs.Updates.{tells_so}
 use Rattle.log_judge.proofs.slots.update_at.Goals as goal
 
-pub returns-then-not-is_update : goal.returns-then-not-is_update
-returns-then-not-is_update c = λ z. absurd (z c.no_told.ensures)
-
 pub returns : goal.returns
 returns c =
     let a = c.args in
-    λ z. tells_so a.n a.m a.log.now a.i _ c.told_at.ensures (c.is_update.ensures (not-false _ c.if-not-is_update.false-raw))
+    tells_so a.n a.m a.log.now a.i _ c.told_at.ensures (c.is_update.ensures (not-false _ c.if-not-is_update.false-raw))

@@ -1,6 +1,6 @@
--- `free_page`: by what a free page is.
-use Rattle.record_apply.specs.Pages.{free_typed}
+-- `free_page`: no entries, and all else 0.
+use Rattle.record_apply.specs.Changes.{freed_typed}
 use Rattle.record_apply.proofs.pages.free_page.Goals as goal
 
 pub returns : goal.returns
-returns c = free_typed _ _
+returns c = let none = c.default in freed_typed c.args.own none.result.count none.result.entries _ none.ensures.0 c.node.ensures

@@ -3,10 +3,8 @@ use Rattle.record_apply.specs.Lists.{listed}
 use Rattle.record_apply.specs.Pages.{renew_typed, renew_map}
 use Rattle.record_apply.proofs.pages.renew.Goals as goal
 
-pub returns-then-x-ge3 : goal.returns-then-x-ge3
-returns-then-x-ge3 c = let a = c.args in renew_map a.x a.right a.high (listed a.l) c.if-x-ge3.true
+pub returns-in-Map : goal.returns-in-Map
+returns-in-Map c = let a = c.args in renew_map a.x a.right a.high (listed a.l) c.in-Map.is
 
-pub returns : goal.returns
-returns c =
-    let a = c.args in
-    renew_typed a.x a.right a.high a.l.count a.l.entries c.if-x-ge3.false c.requires
+pub returns-in_default : goal.returns-in_default
+returns-in_default c = let a = c.args in renew_typed a.x a.right a.high a.l.count a.l.entries c.in_default.not-Map c.requires

@@ -16,4 +16,4 @@ pub returns : goal.returns
 returns c =
     let a = c.args in
     both_of c.both-2.ensures c.ends_with-ends.ensures c.last_key_is.ensures
-    ∙ sym (share_out_row a.r a.x a.n c.requires.0 c.less-k.result c.less-k.ensures (sym c.into_a.ensures ∙ c.if-into_a.false))
+    ∙ sym (share_out_row a.r a.x a.n c.requires.0 c.saturating_sub-k.result c.saturating_sub-k.ensures (sym c.into_a.ensures ∙ c.if-into_a.false))

@@ -10,4 +10,4 @@ returns c =
     both_of c.both-3.ensures c.at_level-level.ensures
     (both_of c.both-2.ensures refl
     (both_of c.both-tail.ensures c.ends_with-ends.ensures (both_of c.both.ensures c.last_key_is-last.ensures refl)))
-    ∙ sym (split_row a.r a.x a.n c.requires.0 c.less-k.result c.less-k.ensures)
+    ∙ sym (split_row a.r a.x a.n c.requires.0 c.saturating_sub-k.result c.saturating_sub-k.ensures)

@@ -1,5 +1,4 @@
 -- `nowhere`: the key stands at no place before i, so the answer is the answer for the rest.
-use Prim.Native.Nat.{◌≤◌, ◌-◌}
 use mathlib.Core.Path.{◌≡◌}
 use lib.ListN.{drop}
 use Rattle.def_model.specs.Fit.{nowhere}
@@ -7,7 +6,4 @@ use Rattle.law_bytes.specs.EntryBytes.{used}
 use Rattle.record_fit.proofs.entries.nowhere.Given as goal
 
 abbrev pub invariant-loop-i : goal.invariant-loop-i
-invariant-loop-i l = (l.i ≤ l.n) × (nowhere l.k (used l.n l.es) ≡ nowhere l.k (drop l.i (used l.n l.es)))
-
-abbrev pub decreases-loop-i : goal.decreases-loop-i
-decreases-loop-i l = l.n - l.i
+invariant-loop-i l = nowhere l.k (used l.n l.es) ≡ nowhere l.k (drop l.i (used l.n l.es))
