@@ -13,7 +13,7 @@ use Rattle.def_model.specs.declared.Answer.TheVariants.{Done}
 use Rattle.def_model.specs.Answers.{Outcome, first_broken}
 use Rattle.def_model.specs.Links.{relinked}
 use Rattle.def_model.specs.Loading.{columns, loaded_pages}
-use Rattle.def_model.specs.Calls.{formatted_pages, format_stores, start_side, format_areas, load_checks, load_areas}
+use Rattle.def_model.specs.Calls.{format_stores, start_side, format_areas, load_checks, load_areas}
 use Rattle.def_model.specs.OnBytes.{Call, Lent, Result, checks, start_checks, does, start_does, outcome_by, lengths_ok, read_areas, work_bytes, log_bytes, outcome, call_by, call, store_all_bytes, lent_after}
 use Rattle.def_model.specs.CallNames.{format, load}
 use Rattle.law_areas.specs.Working.{read_work_length}

@@ -1,5 +1,5 @@
 -- What a formatting or a loading leaves of four lent areas, whose stores are carried out by a budget.
-use Rattle.std.specs.Prelude.{◌≡◌, refl, ℕ, suc, ◌+◌, ◌-◌, ◌*◌, ◌/◌, ◌≤◌, true, false, List, [], ◌++◌, map, take, drop, length, replicate}
+use Rattle.std.specs.Prelude.{◌≡◌, refl, ℕ, suc, ◌+◌, ◌-◌, ◌*◌, ◌/◌, ◌≤◌, List, [], ◌++◌, map, take, drop, length, replicate}
 use Rattle.std.proofs.Common.{ap, ap₂, sym, ◌∙◌, subst, arith, append_assoc, length-append, drop_at}
 use Rattle.std.proofs.lemmas.List.{length-replicate, replicate-append-replicate}
 use Rattle.def_layout.specs.declared.Entry.{Entry}
@@ -21,6 +21,7 @@ use Rattle.law_areas.specs.Logs.{empty_bytes}
 use Rattle.theory_load.specs.Loaded.{loaded_length}
 use Rattle.theory_load.specs.LoadedOrigin.{formatted_loaded}
 use Rattle.area_lengths.specs.Lent.{lent}
+use Rattle.area_store.specs.declared.Area.TheVariants.{Pages, Slots}
 use Rattle.area_store.specs.declared.Stores.{Stores}
 use Rattle.area_store.specs.Lists.{Lists, Leads}
 use Rattle.area_store.specs.Parts.{log_at, pages_at, slots_span, pages_span, both}
@@ -73,7 +74,7 @@ log_formatted s k m e h = e ∙ ap zeros h ∙ sym (empty_bytes m)
 
 -- The list of them: n pages, then m slots.
 abbrev pub all_parts : ℕ → ℕ → Stores
-all_parts n m = record { first = record { pages = true; from = 0; count = n }; rest = record { pages = false; from = 0; count = m } }
+all_parts n m = record { first = record { area = Pages; from = 0; count = n }; rest = record { area = Slots; from = 0; count = m } }
 
 start_list : (es : List Entry) (n m : ℕ) (wp wl : List ℕ) → suc (loaded_count (length es)) ≤ n → wp ≡ pages_bytes (map page (loaded_pages n es)) → wl ≡ log_bytes (replicate m empty)
     → Lists wp wl (all_parts n m) (format_stores (loaded_pages n es) m)

@@ -16,21 +16,22 @@ ghost use Rattle.area_store.specs.Lists.{Leads};
 ghost use Rattle.area_format.specs.Started.{Started, all_parts};
 
 use area_load::{load_map, load_pages};
-use area_store::{Span, Stores, store_first};
+use area_store::{Area, Span, Stores, store_first};
 use codec_bytes::zero;
 use codec_page::{Page, write_at};
+use def_layout::page::PageKind;
 use def_layout::{Entry, PAGE_SIZE, ROOM, SLOT_SIZE};
 
-// The root of a register without slides: a leaf of all keys, with no entry.
+// The root of a register without slides: a leaf of all keys, with no entry. (The literal stays: the proof computes what the page stands for.)
 fn first_root() -> Page
     ensures { typed result ≡ node_at 1 0 0 top [] }
 {
     Page {
-        kind: 1,
+        kind: PageKind::Leaf,
         level: 0,
         count: 0,
         right: 0,
-        high: 4294967295,
+        high: u32::MAX,
         lsn: 0,
         own: 1,
         entries: [Entry { key: 0, val: 0 }; ROOM],
@@ -72,12 +73,12 @@ fn store_started(sp: &mut [u8], sl: &mut [u8], wp: &[u8], wl: &[u8], budget: usi
         (lent wp.now sp.old wl.now sl.old) (lent wp.now sp.new wl.now sl.new) }
 {
     let pages = Span {
-        pages: true,
+        area: Area::Pages,
         from: 0,
         count: wp.len() / PAGE_SIZE,
     };
     let slots = Span {
-        pages: false,
+        area: Area::Slots,
         from: 0,
         count: wl.len() / SLOT_SIZE,
     };

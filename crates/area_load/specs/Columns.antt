@@ -1,10 +1,10 @@
 -- Two columns, as the program has them, and the page that they give by its number.
-use Rattle.std.specs.Prelude.{ℕ, zero, suc, ◌+◌, ◌-◌, ◌≤◌, ◌<◌, ◌≡◌, refl, Bool, true, false, List, [], ◌∷◌, ◌++◌, length, get_or, drop, ltb}
-use Rattle.std.proofs.Common.{sym, ap, ap₂, ◌∙◌, subst, arith}
+use Rattle.std.specs.Prelude.{ℕ, zero, suc, ◌+◌, ◌≤◌, ◌<◌, ◌≡◌, refl, List, [], ◌∷◌, ◌++◌, length, get_or, drop}
+use Rattle.std.proofs.Common.{sym, ap, ◌∙◌, subst, arith}
 use Rattle.std.proofs.Math.ListN.{get_or-append}
-use Rattle.def_base.specs.Tests.{pick, lt_true, lt_false}
+use Rattle.def_base.specs.Tests.{lt_true, lt_false}
 use Rattle.def_layout.specs.declared.Entry.{Entry}
-use Rattle.def_layout.specs.Entries.{entry, entry_at, key_at, no_entry, top}
+use Rattle.def_layout.specs.Entries.{entry, entry_at, no_entry, top}
 use Rattle.def_layout.specs.Numbers.{tab}
 use Rattle.def_layout.specs.Pages.{Page, at, map_bits}
 use Rattle.def_model.specs.Loading.{columns, loaded_count, loaded_pages}

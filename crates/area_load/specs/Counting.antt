@@ -1,8 +1,8 @@
 -- The pages of a tree, counted level by level from the leaves up.
-use Rattle.std.specs.Prelude.{ℕ, zero, suc, ◌+◌, ◌/◌, ◌≤◌, ◌<◌, ◌≡◌, refl, false, leb}
-use Rattle.std.proofs.Common.{sym, ap, ◌∙◌, subst, arith}
+use Rattle.std.specs.Prelude.{ℕ, zero, suc, ◌+◌, ◌≤◌, ◌<◌, ◌≡◌, refl, false, leb}
+use Rattle.std.proofs.Common.{sym, ap, arith}
 use Rattle.std.proofs.Math.Decide.{dec_lt}
-use Rattle.def_base.specs.Tests.{pick, Case, yes!, no!, case, true_le, false_le, le_true, le_false}
+use Rattle.def_base.specs.Tests.{pick, Case, yes!, no!, case, false_le, le_true, le_false}
 use Rattle.def_layout.specs.Sizes.{room}
 use Rattle.def_model.specs.Loading.{group_count, tree_count}
 use Rattle.theory_load.specs.Rungs.{tree_some}

@@ -1,6 +1,6 @@
 -- The map of pages that are used from the first on.
-use Rattle.std.specs.Prelude.{ℕ, zero, suc, ◌+◌, ◌-◌, ◌*◌, ◌/◌, ◌%◌, ◌^◌, ◌≤◌, ◌<◌, ◌≡◌, refl, ◌≢◌, Bool, true, false, ◌&&◌, List, [], ◌∷◌, ◌++◌, length, get_or, replicate, leb, ltb, eqb}
-use Rattle.std.proofs.Common.{sym, ap, ◌∙◌, subst, arith, length-append}
+use Rattle.std.specs.Prelude.{ℕ, zero, suc, ◌+◌, ◌-◌, ◌*◌, ◌/◌, ◌%◌, ◌^◌, ◌≤◌, ◌<◌, ◌≡◌, refl, ◌≢◌, Bool, true, false, ◌&&◌, List, ◌++◌, get_or, replicate, leb, ltb, eqb}
+use Rattle.std.proofs.Common.{sym, ap, ◌∙◌, arith, length-append}
 use Rattle.std.proofs.Math.Decide.{dec_lt}
 use Rattle.std.proofs.lemmas.List.{length-replicate}
 use Rattle.std.proofs.Math.Dec.{leb-suc-suc}
@@ -8,7 +8,8 @@ use Rattle.def_base.specs.Tests.{pick, Case, yes!, no!, case, clash, and_true, t
 use Rattle.def_layout.specs.declared.Entry.{Entry}
 use Rattle.def_layout.specs.Entries.{entry, entry_at, no_entry}
 use Rattle.def_layout.specs.Numbers.{tab}
-use Rattle.def_layout.specs.Pages.{Page, page_kind, map_page, map_bits}
+use Rattle.def_layout.specs.Pages.{Page, map_page, map_bits}
+use Rattle.def_layout.specs.declared.page.PageKind.TheVariants.{Map}
 use Rattle.law_bytes.specs.Tables.{tab_is, getD_tab}
 use Rattle.codec_page.specs.Shown.{program_page}
 use Rattle.codec_page.specs.Typed.{typed, used_entries, used_marks, map_word, map_mark}
@@ -113,8 +114,8 @@ word_of used j h = go (case (eqb (j % 2) 0)) (getD_tab 14 (j / 2) (used_entry us
         odd : j % 2 ≢ 0 → 2 * (j / 2) + 1 ≡ j
         odd n = omega arith
 
-pub typed_used : (used : ℕ) → used ≤ map_bits → typed (program_page 3 0 0 0 0 0 0 (tab 14 (used_entry used))) ≡ used_map used
-unfolding typed page_kind used_entries used_marks map_mark
+pub typed_used : (used : ℕ) → used ≤ map_bits → typed (program_page Map 0 0 0 0 0 0 (tab 14 (used_entry used))) ≡ used_map used
+unfolding typed used_entries used_marks map_mark
 typed_used used h =
     ap map_page
     (tab_is map_bits (map_mark (tab 14 (used_entry used))) (used_marks_of used) false (length-append (replicate used true) (replicate (map_bits - used) false) ∙ (let a = length-replicate used true in let b = length-replicate (map_bits - used) false in omega arith))

@@ -1,15 +1,14 @@
 -- A page of a loading from its place, and an area that is written page after page.
-use Rattle.std.specs.Prelude.{ℕ, zero, suc, ◌+◌, ◌-◌, ◌*◌, ◌≤◌, ◌<◌, ◌≡◌, Bool, true, false, List, [], ◌∷◌, ◌++◌, map, length, get_or, drop, leb}
+use Rattle.std.specs.Prelude.{ℕ, zero, suc, ◌+◌, ◌-◌, ◌*◌, ◌≤◌, ◌<◌, ◌≡◌, true, false, List, [], ◌∷◌, ◌++◌, map, length, drop}
 use Rattle.std.proofs.Math.Path.{refl, sym, ap, ap₂}
-use Rattle.std.proofs.Common.{◌∙◌, subst, append_assoc, append-nil, arith, add-one, length-append}
+use Rattle.std.proofs.Common.{◌∙◌, append-nil, arith, add-one}
 use Rattle.std.proofs.lemmas.List.{map-append}
 use Rattle.std.proofs.Math.ListN.{get_or-eq_default}
 use Rattle.std.proofs.Math.Seq.{drop-length}
-use Rattle.def_base.specs.Tests.{pick}
 use Rattle.def_layout.specs.declared.Entry.{Entry}
 use Rattle.def_layout.specs.Entries.{entry_at, no_entry, top}
 use Rattle.def_layout.specs.Numbers.{tab}
-use Rattle.def_layout.specs.Pages.{Page, at, zero_page, node_at, map_page, map_bits}
+use Rattle.def_layout.specs.Pages.{Page, at, zero_page, node_at}
 use Rattle.def_layout.specs.PageBytes.{page, page_bytes, block_bytes}
 use Rattle.def_model.specs.Loading.{columns, levels_pages, loaded_levels, loaded_count, loaded_pages}
 use Rattle.def_model.specs.OnBytes.{joined, pages_bytes}

@@ -1,13 +1,13 @@
 -- The place of a page: found from the leaves up, for all records of that number at once.
-use Rattle.std.specs.Prelude.{ℕ, zero, suc, ◌+◌, ◌-◌, ◌≤◌, ◌<◌, ◌≡◌, refl, Bool, true, false, List, length, replicate, leb, eqb}
-use Rattle.std.proofs.Common.{sym, ap, ◌∙◌, subst, arith}
+use Rattle.std.specs.Prelude.{ℕ, suc, ◌+◌, ◌-◌, ◌≤◌, ◌<◌, ◌≡◌, refl, Bool, true, false, List, length, replicate, eqb}
+use Rattle.std.proofs.Common.{ap, ◌∙◌, subst, arith}
 use Rattle.std.proofs.lemmas.List.{length-replicate}
-use Rattle.def_base.specs.Tests.{pick, clash, Case, yes!, no!, case, true_le, false_le}
+use Rattle.def_base.specs.Tests.{clash}
 use Rattle.def_layout.specs.declared.Entry.{Entry}
 use Rattle.def_layout.specs.Entries.{no_entry}
 use Rattle.def_layout.specs.Sizes.{room}
 use Rattle.def_layout.specs.Pages.{at}
-use Rattle.def_model.specs.Loading.{group_count, tree_count, levels_pages, loaded_levels, loaded_count}
+use Rattle.def_model.specs.Loading.{group_count, levels_pages, loaded_levels, loaded_count}
 use Rattle.theory_load.specs.Places.{group_end, group_start, end_fits}
 use Rattle.theory_load.specs.Rungs.{count_up, placed, Rung, rung_start, rung_up, rung_page, rung_root, rung_below, rung_top}
 use Rattle.area_load.specs.declared.Place.{Place}

@@ -5,7 +5,7 @@ ghost use Rattle.std.specs.Prelude.{◌≡◌, false, map, suc, ◌+◌, ◌*◌
 ghost use Rattle.def_layout.specs.Entries.{entry_at};
 ghost use Rattle.def_layout.specs.Numbers.{tab};
 ghost use Rattle.def_layout.specs.Sizes.{room, page_size};
-ghost use Rattle.def_layout.specs.Pages.{page_kind, kind_at, node_at, map_bits};
+ghost use Rattle.def_layout.specs.Pages.{node_at, map_bits};
 ghost use Rattle.def_layout.specs.PageBytes.{page};
 ghost use Rattle.def_model.specs.Loading.{columns, group_count, loaded_count, loaded_pages};
 ghost use Rattle.def_model.specs.OnBytes.{pages_bytes};
@@ -17,12 +17,13 @@ ghost use Rattle.area_load.specs.Columns.{Columns, loaded_page};
 ghost use Rattle.area_load.specs.Maps.{used_word, used_map};
 
 use codec_page::{Page, write_at, zero_page};
+use def_layout::page::PageKind;
 use def_layout::{Entry, PAGE_SIZE, ROOM};
 
 // 02: "leaves take 10 each".
 const SHARE: usize = 10;
 
-const TOP: u32 = 4294967295;
+const TOP: u32 = u32::MAX;
 
 // How many of the entries left the next page takes: where the last would be left fewer than 4, the larger half.
 fn share(left: usize) -> usize
@@ -90,10 +91,8 @@ fn level_count(n: usize, height: usize) -> usize
     ensures { result ≡ count_up height n }
 {
     let mut count = n;
-    let mut h = 0;
-    while h < height {
+    for _ in 0..height {
         count = (count + 9) / SHARE;
-        h += 1;
     }
     count
 }
@@ -103,15 +102,13 @@ pub fn last_under(n: usize, height: usize, i: usize) -> usize
     requires { (n ≤ 65536) × (i < count_up height n) }
     ensures { result ≡ under n height i }
 {
-    let mut h = height;
     let mut j = i;
-    while h > 0 {
-        let count = level_count(n, h - 1);
+    for h in (0..height).rev() {
+        let count = level_count(n, h);
         if j + 1 == (count + 9) / SHARE {
             return n;
         }
         j = group_end(count, j) - 1;
-        h -= 1;
     }
     j
 }
@@ -189,7 +186,7 @@ fn entry_of(keys: &[u32], values: &[u32], height: usize, below: usize, i: usize)
     }
 }
 
-// The entries of a page.
+// The entries of a page. (The literal stays where they begin: what `Entry::default()` makes is known by its contract alone, and the proof of all 14 computes.)
 fn entries_of(keys: &[u32], values: &[u32], x: Place) -> [Entry; ROOM]
     requires { Columns keys.now values.now × Within (length keys.now) x }
     ensures { tab x.size (entry_at result) ≡ tab x.size (λ i. level_entry (columns keys.now values.now) x.height x.below (x.from + i)) }
@@ -201,23 +198,15 @@ fn entries_of(keys: &[u32], values: &[u32], x: Place) -> [Entry; ROOM]
     es
 }
 
-fn kind_of(height: usize) -> u32
-    ensures { (page_kind result ≡ kind_at height) × (result < 3) }
-{
-    if height == 0 {
-        return 1;
-    }
-    2
-}
-
 // Page p, with these entries.
 fn node(x: Place, es: [Entry; ROOM], p: usize, right: u32, high: u32) -> Page
     requires { (x.height ≤ 65536) × (x.size ≤ room) × (p ≤ 65536) }
     ensures { typed result ≡ node_at p x.height right high (tab x.size (entry_at es)) }
 {
+    let level = x.height as u32;
     Page {
-        kind: kind_of(x.height),
-        level: x.height as u32,
+        kind: PageKind::at_level(level),
+        level,
         count: x.size as u32,
         right,
         high,
@@ -251,12 +240,12 @@ fn map_word(used: usize, j: usize) -> u32
     }
     let k = used - 32 * j;
     if k >= 32 {
-        return 4294967295;
+        return u32::MAX;
     }
-    4294967295 - (4294967295 >> k)
+    u32::MAX - (u32::MAX >> k)
 }
 
-// The map of so many used pages.
+// The map of so many used pages. (The literal stays, as in `entries_of`.)
 pub fn load_map(used: usize) -> Page
     requires { used ≤ map_bits }
     ensures { typed result ≡ used_map used }
@@ -270,7 +259,7 @@ pub fn load_map(used: usize) -> Page
         };
     }
     Page {
-        kind: 3,
+        kind: PageKind::Map,
         level: 0,
         count: 0,
         right: 0,
@@ -302,9 +291,7 @@ pub fn load_pages(wp: &mut [u8], keys: &[u32], values: &[u32])
     ensures { wp.new ≡ pages_bytes (map page (loaded_pages (length wp.old / page_size) (columns keys.now values.now))) }
 {
     let n = wp.len() / PAGE_SIZE;
-    let mut p = 0;
-    while p < n {
+    for p in 0..n {
         write_at(wp, PAGE_SIZE * p, load_page(keys, values, p));
-        p += 1;
     }
 }

@@ -1,5 +1,5 @@
 -- A CALL'S LIST OF STORES as the program names it, by spans of places, and the definitions' list of stores that it stands for.
-use Rattle.std.specs.Prelude.{◌≡◌, ℕ, ◌+◌, ◌-◌, ◌*◌, ◌≤◌, ◌<◌, Bool, true, false, List, take, length, get_or, ltb}
+use Rattle.std.specs.Prelude.{◌≡◌, ℕ, ◌+◌, ◌-◌, ◌*◌, ◌≤◌, ◌<◌, List, take, length, get_or, ltb}
 use Rattle.def_base.specs.Tests.{pick}
 use Rattle.def_layout.specs.Sizes.{page_size, slot_size, most_slots}
 use Rattle.def_layout.specs.PageBytes.{page_bytes, without_left}
@@ -10,19 +10,21 @@ use Rattle.def_model.specs.OnBytes.{Lent, store_all_bytes}
 use Rattle.law_bytes.specs.Words.{part}
 use Rattle.area_lengths.specs.Lent.{lent}
 use Rattle.area_store.specs.declared.Span.{Span}
+use Rattle.area_store.specs.declared.Area.{Area}
+use Rattle.area_store.specs.declared.Area.TheVariants.{Pages, Slots}
 use Rattle.area_store.specs.declared.Stores.{Stores}
 use Rattle.area_store.specs.declared.Place.{Place}
 use Rattle.area_store.specs.declared.Place.TheVariants.{Page, Slot}
 
 -- ---- places
 
-unfoldable pub place_at : (pages : Bool) → ℕ → Place
-place_at true i = Page i
-place_at false i = Slot i
+unfoldable pub place_at : Area → ℕ → Place
+place_at Pages i = Page i
+place_at Slots i = Slot i
 
 -- The place of a span's k-th store.
 abbrev pub span_place : Span → ℕ → Place
-span_place s k = place_at s.pages (s.from + k)
+span_place s k = place_at s.area (s.from + k)
 
 -- How many stores there are, and the place of the k-th: in the first span while that lasts, then in the other.
 abbrev pub count : Stores → ℕ
@@ -32,14 +34,14 @@ unfoldable pub place : Stores → ℕ → Place
 place s k = pick (ltb k s.first.count) (span_place s.first k) (span_place s.rest (k - s.first.count))
 
 -- The first n places are within the areas, working and stable.
-abbrev pub reaches : (pages : Bool) → ℕ → (wp sp wl sl : List ℕ) → Type 0
-reaches true n wp sp wl sl = (page_size * n ≤ length sp) × (page_size * n ≤ length wp)
-reaches false n wp sp wl sl = (slot_size * n ≤ length sl) × (slot_size * n ≤ length wl)
+abbrev pub reaches : Area → ℕ → (wp sp wl sl : List ℕ) → Type 0
+reaches Pages n wp sp wl sl = (page_size * n ≤ length sp) × (page_size * n ≤ length wp)
+reaches Slots n wp sp wl sl = (slot_size * n ≤ length sl) × (slot_size * n ≤ length wl)
 
 abbrev pub Fits : Stores → (wp sp wl sl : List ℕ) → Type 0
 Fits s wp sp wl sl =
     (s.first.from + s.first.count ≤ most_slots) × (s.rest.from + s.rest.count ≤ most_slots)
-    × reaches s.first.pages (s.first.from + s.first.count) wp sp wl sl × reaches s.rest.pages (s.rest.from + s.rest.count) wp sp wl sl
+    × reaches s.first.area (s.first.from + s.first.count) wp sp wl sl × reaches s.rest.area (s.rest.from + s.rest.count) wp sp wl sl
 
 -- ---- stores
 

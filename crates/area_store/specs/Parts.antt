@@ -3,7 +3,6 @@ use Rattle.std.specs.Prelude.{◌≡◌, refl, ℕ, zero, suc, ◌+◌, ◌-◌,
 use Rattle.std.proofs.Common.{ap, sym, ◌∙◌, mul-zero, append-nil, length-append, take_at, get_or-append-add}
 use Rattle.std.proofs.Math.Path.{subst}
 use native.Mathlib.Omega.{arith}
-use Rattle.std.proofs.Math.Bool.{true, false}
 use Rattle.std.proofs.lemmas.List.{length-map}
 use Rattle.std.proofs.Math.ListN.{get_or-map, get_or-append}
 use Rattle.std.proofs.Math.Seq.{drop-append-add}
@@ -21,6 +20,7 @@ use Rattle.law_bytes.specs.PageBytes.{page_bytes_length}
 use Rattle.law_bytes.specs.LeftLinks.{none_gone}
 use Rattle.law_areas.specs.Parts.{Wide, mul_up}
 use Rattle.area_store.specs.declared.Span.{Span}
+use Rattle.area_store.specs.declared.Area.TheVariants.{Pages, Slots}
 use Rattle.area_store.specs.declared.Stores.{Stores}
 use Rattle.area_store.specs.Lists.{place_at, span_place, place, count, kth, Goes, Lists}
 use Rattle.area_store.specs.Steps.{place_first, place_rest}
@@ -113,20 +113,20 @@ pub record SpanLists (wp wl : List ℕ) (s : Span) (ts : List Store) : Type 0 wh
   pub goes : (k : ℕ) → k < s.count → Goes wp wl (span_place s k) (kth ts k)
 
 module _ (wp wl : List ℕ) where
-  pub slots_span : (i n : ℕ) (xs : List Slot) → length xs ≡ n → SlotsAt wl i xs → SpanLists wp wl (record { pages = false; from = i; count = n }) (slot_stores (suc i) xs)
+  pub slots_span : (i n : ℕ) (xs : List Slot) → length xs ≡ n → SlotsAt wl i xs → SpanLists wp wl (record { area = Slots; from = i; count = n }) (slot_stores (suc i) xs)
   unfolding Goes place_at
   slots_span i n xs e h =
       record {
         size = slot_stores_length (suc i) xs ∙ e;
-        goes = λ (k : ℕ) (l : k < n). subst (Goes wp wl (place_at false (i + k))) (sym (kth_slot (suc i) k xs (omega (arith, l, e)))) (omega arith, h k (omega (arith, l, e)));
+        goes = λ (k : ℕ) (l : k < n). subst (Goes wp wl (place_at Slots (i + k))) (sym (kth_slot (suc i) k xs (omega (arith, l, e)))) (omega arith, h k (omega (arith, l, e)));
       }
 
-  pub pages_span : (i n : ℕ) (xs : List Page) → length xs ≡ n → PagesAt wp i xs → SpanLists wp wl (record { pages = true; from = i; count = n }) (page_stores i xs)
+  pub pages_span : (i n : ℕ) (xs : List Page) → length xs ≡ n → PagesAt wp i xs → SpanLists wp wl (record { area = Pages; from = i; count = n }) (page_stores i xs)
   unfolding Goes place_at
   pages_span i n xs e h =
       record {
         size = page_stores_length i xs ∙ e;
-        goes = λ (k : ℕ) (l : k < n). subst (Goes wp wl (place_at true (i + k))) (sym (kth_page i k xs (omega (arith, l, e)))) (refl, h k (omega (arith, l, e)));
+        goes = λ (k : ℕ) (l : k < n). subst (Goes wp wl (place_at Pages (i + k))) (sym (kth_page i k xs (omega (arith, l, e)))) (refl, h k (omega (arith, l, e)));
       }
 
   -- ONE SPAN, THEN ANOTHER.
@@ -146,9 +146,9 @@ module _ (wp wl : List ℕ) where
 
 -- SLOTS ALONE.
 pub slots_list : (wp wl : List ℕ) (i n : ℕ) (xs : List Slot) → length xs ≡ n → SlotsAt wl i xs
-    → Lists wp wl (record { first = record { pages = false; from = i; count = n }; rest = record { pages = true; from = 0; count = 0 } }) (slot_stores (suc i) xs)
+    → Lists wp wl (record { first = record { area = Slots; from = i; count = n }; rest = record { area = Pages; from = 0; count = 0 } }) (slot_stores (suc i) xs)
 unfolding page_stores
 slots_list wp wl i n xs e h =
-    let s : Stores = record { first = record { pages = false; from = i; count = n }; rest = record { pages = true; from = 0; count = 0 } } in
+    let s : Stores = record { first = record { area = Slots; from = i; count = n }; rest = record { area = Pages; from = 0; count = 0 } } in
     subst (Lists wp wl s) (append-nil (slot_stores (suc i) xs))
     (both wp wl s (slot_stores (suc i) xs) [] (slots_span wp wl i n xs e h) (pages_span wp wl 0 0 [] refl (λ (k : ℕ) (l : k < 0). absurd (omega (arith, l)))))

@@ -1,5 +1,5 @@
 -- ONE STORE after the other: what the k-th leaves, none, one more, and as many as the budget lasts for.
-use Rattle.std.specs.Prelude.{◌≡◌, refl, ℕ, ◌+◌, ◌-◌, ◌*◌, ◌≤◌, ◌<◌, min, Bool, take, length, ltb}
+use Rattle.std.specs.Prelude.{◌≡◌, refl, ℕ, ◌+◌, ◌-◌, ◌*◌, ◌≤◌, ◌<◌, min, take, length, ltb}
 use Rattle.std.proofs.Math.Path.{ap, ap₂}
 use Rattle.std.proofs.Common.{sym, ◌∙◌, subst, add-one, arith, take-suc, take_all}
 use Rattle.std.proofs.Math.Bool.{true, false}
@@ -15,6 +15,8 @@ use Rattle.law_bytes.specs.Patch.{patch}
 use Rattle.law_areas.specs.Held.{put_is}
 use Rattle.law_areas.specs.Stores.{stores_append}
 use Rattle.area_lengths.specs.Lent.{lent}
+use Rattle.area_store.specs.declared.Area.{Area}
+use Rattle.area_store.specs.declared.Area.TheVariants.{Pages, Slots}
 use Rattle.area_store.specs.declared.Stores.{Stores}
 use Rattle.area_store.specs.declared.Place.{Place}
 use Rattle.area_store.specs.declared.Place.TheVariants.{Page, Slot}
@@ -22,20 +24,20 @@ use Rattle.area_store.specs.Lists.{place_at, place, count, reaches, Fits, kth, G
 
 -- ---- the place of the k-th
 
-pub page_place : (b : Bool) (i : ℕ) → b ≡ true → Page i ≡ place_at b i
+pub page_place : (b : Area) (i : ℕ) → b ≡ Pages → Page i ≡ place_at b i
 unfolding place_at
-page_place b i e = ap (λ (a : Bool). place_at a i) (sym e)
+page_place b i e = ap (λ (a : Area). place_at a i) (sym e)
 
-pub slot_place : (b : Bool) (i : ℕ) → b ≡ false → Slot i ≡ place_at b i
+pub slot_place : (b : Area) (i : ℕ) → b ≡ Slots → Slot i ≡ place_at b i
 unfolding place_at
-slot_place b i e = ap (λ (a : Bool). place_at a i) (sym e)
+slot_place b i e = ap (λ (a : Area). place_at a i) (sym e)
 
 module _ (s : Stores) (k : ℕ) where
-  pub place_first : ltb k s.first.count ≡ true → place s k ≡ place_at s.first.pages (s.first.from + k)
+  pub place_first : ltb k s.first.count ≡ true → place s k ≡ place_at s.first.area (s.first.from + k)
   unfolding place
   place_first e = rw e
 
-  pub place_rest : ltb k s.first.count ≡ false → place s k ≡ place_at s.rest.pages (s.rest.from + (k - s.first.count))
+  pub place_rest : ltb k s.first.count ≡ false → place s k ≡ place_at s.rest.area (s.rest.from + (k - s.first.count))
   unfolding place
   place_rest e = rw e
 
@@ -45,10 +47,10 @@ Within wp sp wl sl (Page p) = (page_size * p + page_size ≤ length sp) × (page
 Within wp sp wl sl (Slot i) = (slot_size * i + slot_size ≤ length sl) × (slot_size * i + slot_size ≤ length wl)
 
 module _ (wp sp wl sl : List ℕ) where
-  place_within : (b : Bool) (i n : ℕ) → i < n → reaches b n wp sp wl sl → Within wp sp wl sl (place_at b i)
+  place_within : (b : Area) (i n : ℕ) → i < n → reaches b n wp sp wl sl → Within wp sp wl sl (place_at b i)
   unfolding place_at
-  place_within true i n h r = (omega (arith, h, r.0), omega (arith, h, r.1))
-  place_within false i n h r = (omega (arith, h, r.0), omega (arith, h, r.1))
+  place_within Pages i n h r = (omega (arith, h, r.0), omega (arith, h, r.1))
+  place_within Slots i n h r = (omega (arith, h, r.0), omega (arith, h, r.1))
 
   within : (s : Stores) (k : ℕ) → k < count s → Fits s wp sp wl sl → Within wp sp wl sl (place s k)
   within s k h f = go (case (ltb k s.first.count))
@@ -56,10 +58,10 @@ module _ (wp sp wl sl : List ℕ) where
       go : Case (ltb k s.first.count) → Within wp sp wl sl (place s k)
       go (yes! e) =
           subst (Within wp sp wl sl) (sym (place_first s k e))
-          (place_within s.first.pages (s.first.from + k) (s.first.from + s.first.count) (omega (arith, true_lt k s.first.count e)) f.2)
+          (place_within s.first.area (s.first.from + k) (s.first.from + s.first.count) (omega (arith, true_lt k s.first.count e)) f.2)
       go (no! e) =
           subst (Within wp sp wl sl) (sym (place_rest s k e))
-          (place_within s.rest.pages (s.rest.from + (k - s.first.count)) (s.rest.from + s.rest.count) (omega (arith, h, false_lt k s.first.count e)) f.3)
+          (place_within s.rest.area (s.rest.from + (k - s.first.count)) (s.rest.from + s.rest.count) (omega (arith, h, false_lt k s.first.count e)) f.3)
 
   pub within_at : (s : Stores) (k : ℕ) → k < count s → Fits s wp sp wl sl → (at q : Place) → at ≡ place s k → at ≡ q → Within wp sp wl sl q
   within_at s k h f at q e a = subst (Within wp sp wl sl) (sym e ∙ a) (within s k h f)
@@ -67,11 +69,11 @@ module _ (wp sp wl sl : List ℕ) where
 -- Stores keep the lengths, and so what fits.
 pub fits_still : (s : Stores) (wp sp wl sl sp' sl' : List ℕ) → length sp' ≡ length sp → length sl' ≡ length sl → Fits s wp sp wl sl → Fits s wp sp' wl sl'
 fits_still s wp sp wl sl sp' sl' p q f =
-    (f.0, f.1, go s.first.pages (s.first.from + s.first.count) f.2, go s.rest.pages (s.rest.from + s.rest.count) f.3)
+    (f.0, f.1, go s.first.area (s.first.from + s.first.count) f.2, go s.rest.area (s.rest.from + s.rest.count) f.3)
   where
-    go : (b : Bool) (n : ℕ) → reaches b n wp sp wl sl → reaches b n wp sp' wl sl'
-    go true n r = (omega (arith, r.0, p), r.1)
-    go false n r = (omega (arith, r.0, q), r.1)
+    go : (b : Area) (n : ℕ) → reaches b n wp sp wl sl → reaches b n wp sp' wl sl'
+    go Pages n r = (omega (arith, r.0, p), r.1)
+    go Slots n r = (omega (arith, r.0, q), r.1)
 
 -- ---- one store
 

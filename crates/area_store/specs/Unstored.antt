@@ -1,5 +1,5 @@
 -- THE STORES OF A LOG'S UNSTORED RECORDS: their slots stand in the working log, from the first that is not stored on.
-use Rattle.std.specs.Prelude.{◌≡◌, true, false, take, drop, get_or}
+use Rattle.std.specs.Prelude.{◌≡◌, take, drop, get_or}
 use Rattle.std.proofs.Math.Path.{refl, ap, sym, subst}
 use Rattle.std.proofs.Common.{◌∙◌, get_or-take, get_or-drop}
 use Prim.Native.Nat.{ℕ, zero, suc, ◌+◌, ◌-◌, ◌*◌, ◌≤◌, ◌<◌}
@@ -23,6 +23,7 @@ use Rattle.law_areas.specs.Logs.{wide_slots}
 use Rattle.law_areas.specs.Typed.{slots_length}
 use Rattle.area_lengths.specs.Lent.{lent}
 use Rattle.area_store.specs.Lists.{Lists}
+use Rattle.area_store.specs.declared.Area.TheVariants.{Pages, Slots}
 use Rattle.area_store.specs.Parts.{SlotsAt, slot_part, slot_stores_length, page_alone, slots_span, pages_span, both}
 use Rattle.area_store.specs.Beside.{SlotsLeft, any_work}
 
@@ -90,10 +91,10 @@ module _ (m stored budget : ℕ) (log : List Rec) (wl : List ℕ) (work : wl ≡
 
   -- RECORDS, THEN PAGE p.
   pub write_out_list : (wp : List ℕ) (p : ℕ) (x : Page) → without_left (part wp (page_size * p) page_size) ≡ page_bytes x → (n : ℕ) → n ≡ length log - stored
-      → Lists wp wl (record { first = record { pages = false; from = stored; count = n }; rest = record { pages = true; from = p; count = 1 } }) (log_stores stored log ++ store_page p x ∷ [])
+      → Lists wp wl (record { first = record { area = Slots; from = stored; count = n }; rest = record { area = Pages; from = p; count = 1 } }) (log_stores stored log ++ store_page p x ∷ [])
   unfolding log_stores page_stores
   write_out_list wp p x e n c =
-      both wp wl (record { first = record { pages = false; from = stored; count = n }; rest = record { pages = true; from = p; count = 1 } })
+      both wp wl (record { first = record { area = Slots; from = stored; count = n }; rest = record { area = Pages; from = p; count = 1 } })
       (log_stores stored log) (store_page p x ∷ [])
       (slots_span wp wl stored n (unstored stored log) (unstored_length stored log ∙ sym c) (unstored_at m stored log wl work fewer))
       (pages_span wp wl p 1 (x ∷ []) refl (page_alone wp p x e))

@@ -16,10 +16,17 @@ use codec_bytes::copy_part;
 use codec_page::store_at;
 use def_layout::{PAGE_SIZE, SLOT_SIZE};
 
+// What a span is of: the pages, or the log's slots.
+#[derive(Clone, Copy)]
+pub enum Area {
+    Pages,
+    Slots,
+}
+
 // Pages in a row, or slots: `count` of them from place `from` on, the first of an area being at place 0.
 #[derive(Clone, Copy)]
 pub struct Span {
-    pub pages: bool,
+    pub area: Area,
     pub from: usize,
     pub count: usize,
 }
@@ -43,10 +50,10 @@ fn place_in(s: Span, k: usize) -> Place
     requires { (k < s.count) × (s.from + s.count ≤ most_slots) }
     ensures { result ≡ span_place s k }
 {
-    if s.pages {
-        return Place::Page(s.from + k);
+    match s.area {
+        Area::Pages => Place::Page(s.from + k),
+        Area::Slots => Place::Slot(s.from + k),
     }
-    Place::Slot(s.from + k)
 }
 
 // Where the k-th store of a list goes: in the first span while that lasts, then in the other.
@@ -80,22 +87,12 @@ fn store_one(sp: &mut [u8], sl: &mut [u8], wp: &[u8], wl: &[u8], s: Stores, k: u
     }
 }
 
-// The smaller of two numbers.
-fn fewer(a: usize, b: usize) -> usize
-    ensures { result ≡ min a b }
-{
-    if a < b {
-        return a;
-    }
-    b
-}
-
 // THE FIRST STORES of a list, in order: as many as the budget lasts for.
 pub fn store_first(sp: &mut [u8], sl: &mut [u8], wp: &[u8], wl: &[u8], s: Stores, budget: usize)
     requires { Fits s wp.now sp.old wl.now sl.old }
     ensures { Leads s budget wp.now wl.now (lent wp.now sp.old wl.now sl.old) (lent wp.now sp.new wl.now sl.new) }
 {
-    let n = fewer(budget, s.first.count + s.rest.count);
+    let n = budget.min(s.first.count + s.rest.count);
     for k in 0..n {
         store_one(sp, sl, wp, wl, s, k);
     }
@@ -109,12 +106,12 @@ pub fn store_slots(sl: &mut [u8], wl: &[u8], from: usize, to: usize, budget: usi
     let mut stable = [0u8; 0];
     let work = [0u8; 0];
     let slots = Span {
-        pages: false,
+        area: Area::Slots,
         from,
         count: to - from,
     };
     let none = Span {
-        pages: true,
+        area: Area::Pages,
         from: 0,
         count: 0,
     };

@@ -1,5 +1,7 @@
 -- The place in the level above: the entries that are left there, from it on.
 use Rattle.std.specs.Prelude.{◌≡◌, ◌≢◌, ℕ, zero, suc, ◌+◌, ◌-◌, ◌<◌, ◌≤◌, Bool, drop, leb, ltb, eqb}
+use Rattle.std.specs.Prelude as program
+use Rattle.std.specs.Option.{UnwrapsOrElse}
 use Rattle.std.proofs.Math.Path.{refl, sym, ap}
 use Rattle.std.proofs.Common.{◌∙◌, sub-one}
 use Rattle.std.proofs.Math.Decide.{dec_lt}
@@ -8,7 +10,7 @@ use Rattle.std.proofs.Math.Bool.{true, false}
 use mathlib.Core.List.{List, [], ◌∷◌, ◌++◌}
 use Rattle.def_base.specs.Tests.{pick, eq_true, neq_false, lt_true, lt_false, le_true, le_false}
 use Rattle.def_layout.specs.declared.Entry.{Entry}
-use Rattle.def_layout.specs.Entries.{entry_at}
+use Rattle.def_layout.specs.Entries.{entry_at, no_entry}
 use Rattle.def_layout.specs.Pages.{Page, at}
 use Rattle.law_bytes.specs.EntryBytes.{used}
 use Rattle.codec_entries.specs.Turns.{used_cons, used_rest_none}
@@ -16,6 +18,11 @@ use Rattle.def_model.specs.TreeRules.{flat, chain, first_child}
 use Rattle.tree_check.specs.Under.{stands, due_after, left_after, all_met, and_false}
 use Rattle.tree_check.specs.Level.{level_end, chain_none, chain_cons}
 use Rattle.tree_check.specs.declared.Above.{Above}
+
+-- What is there, or else the default entry, which is no entry.
+pub or_no_entry : (o : program.Option Entry) (r : Entry) (P : Entry → Type 0) → ((d : Entry) → P d → d ≡ no_entry) → UnwrapsOrElse o P r → r ≡ program.unwrap_or o no_entry
+or_no_entry program.None r P is u = is r u
+or_no_entry (program.Some x) r P is u = u
 
 -- The entries of the page at hand, and all that are left.
 abbrev pub shown : Above → List Entry

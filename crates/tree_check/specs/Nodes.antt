@@ -11,13 +11,13 @@ use Rattle.def_layout.specs.declared.Entry.{Entry}
 use Rattle.def_layout.specs.Entries.{entry_at, key_at}
 use Rattle.def_layout.specs.Sizes.{room}
 use Rattle.def_layout.specs.Numbers.{tab}
-use Rattle.def_layout.specs.Pages.{Page, at, page_kind, kind_is, kind_at}
+use Rattle.def_layout.specs.declared.page.PageKind.TheVariants.{Map}
+use Rattle.def_layout.specs.Pages.{Page, at, kind_is, kind_at}
 use Rattle.law_bytes.specs.Tables.{tab_length, getD_tab}
 use Rattle.law_bytes.specs.EntryBytes.{used}
 use Rattle.codec_entries.specs.Turns.{used_cons, used_rest_none}
 use Rattle.codec_page.specs.declared.Page as program
 use Rattle.codec_page.specs.Typed.{typed, map_mark, used_marks_node}
-use Rattle.law_bytes.specs.PageKinds.{kind_tested}
 use Rattle.codec_page.specs.Shown.{typed_marks}
 use Rattle.codec_map.specs.Turns.{marks}
 use Rattle.def_model.specs.Fit.{after}
@@ -25,17 +25,6 @@ use Rattle.def_model.specs.TreeRules.{rising, ends_ok, node_ok, walk_ok, tree_ok
 use Rattle.tree_check.specs.Under.{and_false}
 use Rattle.tree_check.specs.Level.{node, reached, page_fits}
 use Rattle.tree_check.specs.Rules.{no_map, map_unmarked, map_marked}
-
--- ---- the kind of a level
-
-module _ (x : program.Page) (l : ℕ) where
-  pub leaf_kind : l ≡ 0 → eqb x.kind 1 ≡ kind_is (typed x).kind (kind_at l)
-  unfolding typed page_kind
-  leaf_kind e = rw e (kind_tested x.kind 1 (omega arith))
-
-  pub index_kind : l ≢ 0 → eqb x.kind 2 ≡ kind_is (typed x).kind (kind_at l)
-  unfolding typed page_kind
-  index_kind n = rw (neq_false n) (kind_tested x.kind 2 (omega arith))
 
 -- ---- a page that the walk may reach
 
@@ -164,11 +153,11 @@ module _ (x : program.Page) (l few from m : ℕ) (is : (typed x).entries ≡ use
 -- ---- the map
 
 module _ (pages : List Page) (x : program.Page) (t : typed x ≡ at pages 0) where
-  pub not_a_map : x.kind < 3 → false ≡ tree_ok pages
+  pub not_a_map : (x.kind ≡ Map → ⊥) → false ≡ tree_ok pages
   unfolding typed
   not_a_map h = sym (no_map pages (sym (ap (λ (y : Page). y.marks) t) ∙ used_marks_node x.entries x.kind h))
 
-  module _ (h : 3 ≤ x.kind) where
+  module _ (h : x.kind ≡ Map) where
     pub marks_are : (at pages 0).marks ≡ marks x.entries
     marks_are = sym (ap (λ (y : Page). y.marks) t) ∙ typed_marks x h
 

@@ -19,7 +19,14 @@ ghost use Rattle.tree_check.specs.Above.{shown, Readied, Passed, Started};
 
 use codec_map::count_used;
 use codec_page::{Page, marked, nth_page, size_of};
+use def_layout::page::PageKind;
 use def_layout::{Entry, ROOM};
+
+// 01: a page beside another holds at least 4 entries.
+const LEAST: usize = 4;
+
+// One above the highest key.
+const PAST_TOP: usize = 4294967296;
 
 // The place in the level above: the entries of a page there, the first of them that is left, the page after it, and how many pages may
 // follow. An indirect page is due if the last page passed ended below its entry's key.
@@ -38,10 +45,7 @@ struct Above {
 fn kind_ok(x: Page, level: u32) -> bool
     ensures { result ≡ kind_is (typed x).kind (kind_at level) }
 {
-    if level == 0 {
-        return x.kind == 1;
-    }
-    x.kind == 2
+    x.kind == PageKind::at_level(level)
 }
 
 // Page p is in the area, of the level's kind and level, and marked as used.
@@ -69,16 +73,13 @@ fn rises(es: [Entry; ROOM], m: usize, from: usize) -> bool
     requires { m ≤ room }
     ensures { result ≡ rising from (used m es) }
 {
-    let mut i = 0;
     let mut least = from;
-    while i < m {
-        let e = es[i];
-        let k = e.key as usize;
+    for i in 0..m {
+        let k = es[i].key as usize;
         if k < least {
             return false;
         }
         least = k + 1;
-        i += 1;
     }
     true
 }
@@ -145,7 +146,7 @@ fn root_few(x: Page) -> usize
     ensures { result ≡ root_few (typed x) }
 {
     if x.right != 0 {
-        return 4;
+        return LEAST;
     }
     if x.level == 0 {
         return 0;
@@ -161,7 +162,7 @@ fn above_root() -> Above
 {
     Above {
         entries: [Entry {
-            key: 4294967295,
+            key: u32::MAX,
             val: 1,
         }; ROOM],
         count: 1,
@@ -184,8 +185,8 @@ fn start_above(pages: &[u8], n: usize, p: usize, left: usize, due: bool) -> Abov
         count: size_of(x),
         place: 0,
         next: x.right as usize,
-        left: left,
-        due: due,
+        left,
+        due,
     }
 }
 
@@ -196,11 +197,8 @@ fn ready(pages: &[u8], n: usize, c: Above) -> Above
 {
     let mut r = c;
     while r.count <= r.place {
-        if r.next == 0 {
-            return r;
-        }
-        if r.left == 0 {
-            return r;
+        if r.next == 0 || r.left == 0 {
+            break;
         }
         r = start_above(pages, n, r.next, r.left - 1, r.due);
     }
@@ -212,11 +210,7 @@ fn entry_of(c: Above) -> Entry
     ensures { result ≡ entry_at c.entries c.place }
 {
     let es = c.entries;
-    let i = c.place;
-    if i < ROOM {
-        return es[i];
-    }
-    Entry { key: 0, val: 0 }
+    es.get(c.place).copied().unwrap_or_default()
 }
 
 // The page that begins the level below.
@@ -251,22 +245,21 @@ fn passed(c: Above, high: u32) -> Above
     requires { c.place < c.count }
     ensures { Passed c high result }
 {
-    let mut r = c;
-    let e = entry_of(c);
-    if high < e.key {
-        r.due = true;
-        return r;
+    if high < entry_of(c).key {
+        return Above { due: true, ..c };
     }
-    r.due = false;
-    r.place = c.place + 1;
-    r
+    Above {
+        due: false,
+        place: c.place + 1,
+        ..c
+    }
 }
 
 // Whether a level may end there: its last high key is top, no page is due, and no entry is left.
 fn level_ended(c: Above, from: usize) -> bool
     ensures { result ≡ level_end from c.due (shown c) }
 {
-    if from != 4294967296 {
+    if from != PAST_TOP {
         return false;
     }
     if c.due {
@@ -277,7 +270,8 @@ fn level_ended(c: Above, from: usize) -> bool
 
 // ---- the walk
 
-// Level by level and page by page, left at the first rule that is broken; `count` is of the map and the pages passed.
+// Level by level and page by page, left at the first rule that is broken; `count` is of the map and the pages passed. (01's form: nested loops over levels and
+// chain pages, left by a label. Kept for it.)
 fn levels_ok(pages: &[u8], n: usize, map: [Entry; ROOM]) -> bool
     requires { HasPages n pages.now × ((at (pages_of n pages.now) 0).marks ≡ marks map) }
     ensures { result ≡ walk_ok (pages_of n pages.now) }
@@ -319,7 +313,7 @@ fn levels_ok(pages: &[u8], n: usize, map: [Entry; ROOM]) -> bool
         }
         above = start_above(pages, n, first, n - 1, false);
         level -= 1;
-        few = 4;
+        few = LEAST;
     }
     false
 }
@@ -330,9 +324,9 @@ pub fn tree_ok(pages: &[u8], n: usize) -> bool
     ensures { result ≡ tree_ok (pages_of n pages.now) }
 {
     let x = nth_page(pages, n, 0);
-    if x.kind < 3 {
+    let PageKind::Map = x.kind else {
         return false;
-    }
+    };
     let map = x.entries;
     if !marked(map, 0) {
         return false;

@@ -1,5 +1,5 @@
 -- The last entry of a page, and the last below a key: the one before a place; and what previous makes of them.
-use Rattle.std.specs.Prelude.{◌≡◌, refl, ℕ, zero, suc, ◌-◌, ◌<◌, ◌≤◌, List, [], ◌∷◌, length, ltb}
+use Rattle.std.specs.Prelude.{◌≡◌, ◌≢◌, refl, ℕ, zero, suc, ◌-◌, ◌<◌, ◌≤◌, List, [], ◌∷◌, length, ltb}
 use Rattle.std.proofs.Math.Path.{ap, sym}
 use Rattle.std.proofs.Common.{◌∙◌, arith}
 use Rattle.std.proofs.Math.Decide.{dec_lt}
@@ -7,6 +7,7 @@ use Rattle.std.proofs.Math.Option.{Option, none, some}
 use Rattle.std.proofs.Math.ListN.{get_or}
 use Rattle.def_base.specs.Tests.{Case, yes!, no!, case, eq_true, neq_false}
 use Rattle.def_layout.specs.declared.Entry.{Entry}
+use Rattle.def_layout.specs.declared.page.PageKind.TheVariants.{Map}
 use Rattle.def_layout.specs.Entries.{entry_at, place}
 use Rattle.def_layout.specs.Pages.{Page, at}
 use Rattle.def_layout.specs.Numbers.{tab}
@@ -17,13 +18,13 @@ use Rattle.law_bytes.specs.EntryBytes.{used, used_in}
 use Rattle.law_bytes.specs.PageBytes.{fits_count}
 use Rattle.law_areas.specs.Pages.{AllPagesFit, fits_past}
 use Rattle.codec_page.specs.declared.Page as program
-use Rattle.codec_page.specs.Typed.{typed, used_entries_map}
-use Rattle.codec_page.specs.Shown.{typed_entries}
-use Rattle.tree_lookup.specs.Searched.{searched, searched_map, searched_all, searched_used}
+use Rattle.codec_page.specs.Typed.{typed}
+use Rattle.codec_page.specs.Shown.{typed_entries, map_entries}
+use Rattle.tree_lookup.specs.Searched.{searched, map_or_node, searched_map, searched_all, searched_used}
 
 -- A page has at most 14 entries.
 abbrev pub Short : program.Page → Type 0
-Short x = x.kind < 3 → x.count ≤ room
+Short x = x.kind ≢ Map → x.count ≤ room
 
 -- ---- the entry before a place
 
@@ -61,8 +62,8 @@ module _ (x : program.Page) (short : Short x) where
   entries_searched : (typed x).entries ≡ used (searched x) x.entries
   unfolding typed tab
   entries_searched =
-      elim (dec_lt x.kind 3) [
-        | yes h ↦
+      elim (map_or_node x.kind) [
+        | inr h ↦
             typed_entries x h
             ∙ elim (dec_lt x.count 14) [
               | yes q ↦ ap (λ (m : ℕ). used m x.entries) (sym (searched_used x h q))
@@ -70,7 +71,7 @@ module _ (x : program.Page) (short : Short x) where
                   let e : x.count ≡ 14 = omega (arith, short h) in
                   ap (λ (m : ℕ). used m x.entries) (e ∙ sym (searched_all x h (omega arith)))
             ]
-        | no h ↦ used_entries_map x.count x.entries x.kind (omega arith) ∙ ap (λ (m : ℕ). used m x.entries) (sym (searched_map x (omega arith)))
+        | inl h ↦ map_entries x h ∙ ap (λ (m : ℕ). used m x.entries) (sym (searched_map x h))
       ]
 
   module _ (n : ℕ) (e : n ≡ searched x) where

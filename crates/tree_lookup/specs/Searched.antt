@@ -1,13 +1,15 @@
 -- Search in a page whatever its count: the entries past the fourteenth are zero, so that no search stops at them.
-use Rattle.std.specs.Prelude.{◌≡◌, ℕ, zero, suc, ◌<◌, ◌≤◌, length, ltb, leb, min}
+use Rattle.std.specs.Prelude.{◌≡◌, ◌≢◌, ◌⊎◌, ℕ, zero, suc, ◌<◌, ◌≤◌, length, ltb, leb, min}
 use Rattle.std.proofs.Math.Path.{ap, sym}
-use Rattle.std.proofs.Common.{◌∙◌, arith}
+use Rattle.std.proofs.Common.{◌∙◌, refl, inl, inr, arith}
 use Rattle.std.proofs.Math.Decide.{dec_lt}
 use mathlib.Core.List.{List, [], ◌∷◌, ◌++◌}
 use Rattle.std.proofs.Math.Option.{Option, none, some}
 use Rattle.std.proofs.Math.ListN.{get_or-eq_default}
 use Rattle.def_base.specs.Tests.{pick, Case, yes!, no!, case, true_lt, lt_true, le_true, le_false}
 use Rattle.def_layout.specs.declared.Entry.{Entry}
+use Rattle.def_layout.specs.declared.page.PageKind.{PageKind}
+use Rattle.def_layout.specs.declared.page.PageKind.TheVariants.{Free, Leaf, Index, Map}
 use Rattle.def_layout.specs.Entries.{entry_at, no_entry, place, seek}
 use Rattle.def_layout.specs.Numbers.{tab}
 use Rattle.law_bytes.specs.Tables.{tab_length}
@@ -16,25 +18,32 @@ use Rattle.codec_entries.specs.Places.{seek_here, seek_past}
 use Rattle.codec_entries.specs.Turns.{used_cons}
 use Rattle.def_model.specs.Lookup.{first_of}
 use Rattle.codec_page.specs.declared.Page as program
-use Rattle.codec_page.specs.Typed.{typed, used_entries_map}
-use Rattle.codec_page.specs.Shown.{typed_entries}
+use Rattle.codec_page.specs.Typed.{typed, has_marks, marks_none}
+use Rattle.codec_page.specs.Shown.{typed_entries, map_entries}
 
 -- How many entries the search goes over.
 unfoldable pub searched : program.Page → ℕ
-searched x = pick (leb 3 x.kind) 0 (min x.count 14)
+searched x = pick (has_marks x.kind) 0 (min x.count 14)
 
-pub searched_map : (x : program.Page) → 3 ≤ x.kind → searched x ≡ 0
+-- The map, or a page with entries.
+pub map_or_node : (k : PageKind) → (k ≡ Map) ⊎ (k ≢ Map)
+map_or_node Free = inr (λ e. cc)
+map_or_node Leaf = inr (λ e. cc)
+map_or_node Index = inr (λ e. cc)
+map_or_node Map = inl refl
+
+pub searched_map : (x : program.Page) → x.kind ≡ Map → searched x ≡ 0
+unfolding searched has_marks
+searched_map x h = ap (λ (k : PageKind). pick (has_marks k) 0 (min x.count 14)) h
+
+pub searched_node : (x : program.Page) → x.kind ≢ Map → searched x ≡ min x.count 14
 unfolding searched
-searched_map x h = rw (le_true 3 x.kind h)
+searched_node x h = rw (marks_none x.kind h)
 
-pub searched_node : (x : program.Page) → x.kind < 3 → searched x ≡ min x.count 14
-unfolding searched
-searched_node x h = rw (le_false 3 x.kind h)
-
-pub searched_all : (x : program.Page) → x.kind < 3 → 14 ≤ x.count → searched x ≡ 14
+pub searched_all : (x : program.Page) → x.kind ≢ Map → 14 ≤ x.count → searched x ≡ 14
 searched_all x h l = searched_node x h ∙ omega (arith, l)
 
-pub searched_used : (x : program.Page) → x.kind < 3 → x.count < 14 → searched x ≡ x.count
+pub searched_used : (x : program.Page) → x.kind ≢ Map → x.count < 14 → searched x ≡ x.count
 searched_used x h l = searched_node x h ∙ omega (arith, l)
 
 -- ---- zeros at the end
@@ -73,8 +82,8 @@ module _ (x : program.Page) (k : ℕ) (l : length x.entries ≡ 14) where
   seek_searched : seek k (typed x).entries ≡ seek k (used (searched x) x.entries)
   unfolding typed tab
   seek_searched =
-      elim (dec_lt x.kind 3) [
-        | yes h ↦
+      elim (map_or_node x.kind) [
+        | inr h ↦
             ap (λ (r : List Entry). seek k r) (typed_entries x h)
             ∙ elim (dec_lt x.count 14) [
               | yes q ↦ ap (λ (m : ℕ). seek k (used m es)) (sym (searched_used x h q))
@@ -82,9 +91,7 @@ module _ (x : program.Page) (k : ℕ) (l : length x.entries ≡ 14) where
                   seek_fourteen k x.count es (omega arith) (omega arith)
                   ∙ ap (λ (m : ℕ). seek k (used m es)) (sym (searched_all x h (omega arith)))
             ]
-        | no h ↦
-            ap (λ (r : List Entry). seek k r) (used_entries_map x.count es x.kind (omega arith))
-            ∙ ap (λ (m : ℕ). seek k (used m es)) (sym (searched_map x (omega arith)))
+        | inl h ↦ ap (λ (r : List Entry). seek k r) (map_entries x h) ∙ ap (λ (m : ℕ). seek k (used m es)) (sym (searched_map x h))
       ]
 
   -- The two ends of the program's search.
@@ -103,16 +110,11 @@ module _ (x : program.Page) (k : ℕ) (l : length x.entries ≡ 14) where
       let q : length (used n es) ≤ i = omega (arith, tab_length n (entry_at es)) in
       sym (seek_searched ∙ ap (λ (m : ℕ). seek k (used m es)) (sym e) ∙ seek_past k (used n es) (omega arith))
 
--- The first entry.
-module _ (x : program.Page) where
-  pub first_map : 3 ≤ x.kind → none ≡ first_of (typed x).entries
-  unfolding typed first_of
-  first_map h = sym (ap first_of (used_entries_map x.count x.entries x.kind h))
+-- The first entry, by how many there are.
+pub first_none : (es fs : List Entry) (r : ℕ) → fs ≡ used r es → r ≡ 0 → none ≡ first_of fs
+unfolding first_of tab
+first_none es fs r e z = sym (ap first_of (e ∙ ap (λ (m : ℕ). used m es) z))
 
-  pub first_none : x.kind < 3 → x.count ≡ 0 → none ≡ first_of (typed x).entries
-  unfolding first_of tab
-  first_none h e = sym (ap first_of (typed_entries x h ∙ ap (λ (m : ℕ). used m x.entries) e))
-
-  pub first_at : x.kind < 3 → (x.count ≡ 0 → ⊥) → some (entry_at x.entries 0) ≡ first_of (typed x).entries
-  unfolding first_of
-  first_at h n = sym (ap first_of (typed_entries x h ∙ used_cons x.entries x.count 0 (omega arith)))
+pub first_at : (es fs : List Entry) (r : ℕ) → fs ≡ used r es → r ≢ 0 → some (entry_at es 0) ≡ first_of fs
+unfolding first_of
+first_at es fs r e n = sym (ap first_of (e ∙ used_cons es r 0 (omega arith)))

@@ -15,7 +15,8 @@ ghost use Rattle.tree_lookup.specs.Searched.{searched};
 ghost use Rattle.tree_lookup.specs.Backwards.{Short, preceding};
 
 use codec_entries::find;
-use codec_page::{Page, left_of, nth_page};
+use codec_page::{Page, left_of, nth_page, size_of};
+use def_layout::page::PageKind;
 use def_layout::{Entry, MOST_ENTRIES, ROOM};
 
 // A page of an area, and its number there.
@@ -30,10 +31,10 @@ pub struct Node {
 fn searched(x: Page) -> u8
     ensures { (result ≡ searched x) × (result ≤ room) }
 {
-    if x.kind >= 3 {
-        return 0;
+    match x.kind {
+        PageKind::Map => 0,
+        _ => x.count.min(MOST_ENTRIES) as u8,
     }
-    x.count.min(MOST_ENTRIES) as u8
 }
 
 // The first entry of a page whose key is not below k.
@@ -65,7 +66,7 @@ pub fn entry_for(x: Page, k: u32) -> Entry
 fn first_of(x: Page) -> Option<Entry>
     ensures { option_of result ≡ first_of (typed x).entries }
 {
-    if x.kind >= 3 || x.count == 0 {
+    if size_of(x) == 0 {
         return None;
     }
     let es = x.entries;

@@ -6,12 +6,14 @@ use Rattle.std.proofs.Math.Bool.{true, false}
 use mathlib.Core.List.{List, []}
 use Rattle.std.proofs.Math.Dec.{ltb, eqb}
 use Rattle.def_base.specs.Tests.{Case, yes!, no!, case, eq_true, neq_false}
+use Rattle.def_layout.specs.declared.page.PageKind.TheVariants.{Map}
 use Rattle.def_layout.specs.Pages.{Page, at}
 use Rattle.def_layout.specs.Records.{Rec}
 use Rattle.def_model.specs.declared.Refusal.TheVariants.{PagesShort}
 use Rattle.def_model.specs.Update.{Run, going, emit, highest, fresh, taking_by, emit_taking}
 use Rattle.codec_page.specs.declared.Page as program
-use Rattle.codec_page.specs.Typed.{typed, used_marks_node, used_marks_map}
+use Rattle.codec_page.specs.Typed.{typed, used_marks_node}
+use Rattle.codec_page.specs.Shown.{typed_marks}
 use Rattle.codec_map.specs.Turns.{marks}
 use Rattle.record_pages.specs.Pages.{Pages, Reads}
 use Rattle.tree_write.specs.declared.Run as program_run
@@ -35,16 +37,16 @@ highest_unmarked (suc n) = highest_unmarked n
 
 module _ {n : ℕ} {area : List ℕ} (x : program.Page) (near : ℕ) (xs : List Page) (ls : List ℕ) (h : Pages n area xs ls) (q : Reads x (at xs 0)) where
   -- A page that is no map marks nothing as free.
-  pub fresh_none : x.kind < 3 → 0 ≡ fresh xs near
+  pub fresh_none : (x.kind ≡ Map → ⊥) → 0 ≡ fresh xs near
   unfolding fresh typed
   fresh_none k =
       sym (ap (λ (m : List Bool). highest (length xs) m) (sym (ap (λ (y : Page). y.marks) q.is) ∙ used_marks_node x.entries x.kind k) ∙ highest_unmarked (length xs))
 
-  pub fresh_is : (b : ℕ) → 3 ≤ x.kind → b ≡ highest n (marks x.entries) → b ≡ fresh xs near
+  pub fresh_is : (b : ℕ) → x.kind ≡ Map → b ≡ highest n (marks x.entries) → b ≡ fresh xs near
   unfolding fresh typed
   fresh_is b k e =
       e ∙ ap (λ (i : ℕ). highest i (marks x.entries)) (sym h.size)
-      ∙ ap (λ (m : List Bool). highest (length xs) m) (sym (used_marks_map x.entries x.kind k) ∙ ap (λ (y : Page). y.marks) q.is)
+      ∙ ap (λ (m : List Bool). highest (length xs) m) (sym (typed_marks x k) ∙ ap (λ (y : Page). y.marks) q.is)
 
 -- ---- a record that takes page b
 

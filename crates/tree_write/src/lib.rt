@@ -17,6 +17,7 @@ ghost use Rattle.tree_write.specs.Shows.{Shows, Keeping, Halted};
 use codec_map::highest_free;
 use codec_slot::{Header, Slot, write_at};
 use def_layout::SLOT_SIZE;
+use def_layout::page::PageKind;
 use def_model::Refusal;
 use record_apply::Record;
 use record_make::batch_row;
@@ -112,11 +113,11 @@ pub fn fresh(wp: &[u8], n: usize) -> u32
     ensures { (result < 1024) × ((xs : List Page) (ls : List ℕ) (near : ℕ) → Pages n wp.now xs ls → result ≡ model.fresh xs near) }
 {
     let x = page_at(wp, n, 0);
-    if x.kind < 3 {
-        return 0;
-    }
     let es = x.entries;
-    highest_free(es, n) as u32
+    match x.kind {
+        PageKind::Map => highest_free(es, n) as u32,
+        _ => 0,
+    }
 }
 
 // A record that takes page b, where b is the page taken: the slot is asked for first.

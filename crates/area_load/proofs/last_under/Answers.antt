@@ -8,9 +8,6 @@ use Rattle.area_load.proofs.last_under.Goals as goal
 pub loop-h-init : goal.loop-h-init
 loop-h-init c = (omega arith, c.requires.1, refl)
 
-pub overflow_sub-h : goal.overflow_sub-h
-overflow_sub-h c = omega arith
-
 pub level_count-count-requires : goal.level_count-count-requires
 level_count-count-requires c = omega arith
 
@@ -28,12 +25,6 @@ group_end-j-requires c = let l = c.loop-h in let f = count_few (l.h - 1) c.args.
 
 pub overflow_sub-j : goal.overflow_sub-j
 overflow_sub-j c = let l = c.loop-h in let g = group_some c.args.n l.h l.j c.level_count-count.result (omega arith) l.invariant.1 c.level_count-count.ensures in let e = c.group_end-j.ensures in omega arith
-
-pub overflow_sub-h-in-loop-h : goal.overflow_sub-h-in-loop-h
-overflow_sub-h-in-loop-h c = omega arith
-
-pub loop-h-smaller : goal.loop-h-smaller
-loop-h-smaller c = omega arith
 
 pub loop-h-preserved : goal.loop-h-preserved
 loop-h-preserved c =

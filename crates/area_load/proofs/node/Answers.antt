@@ -3,4 +3,4 @@ use Rattle.area_load.specs.Kinds.{node_typed}
 use Rattle.area_load.proofs.node.Goals as goal
 
 pub returns : goal.returns
-returns c = node_typed _ _ _ _ _ _ _ c.kind_of.ensures.0 c.kind_of.ensures.1
+returns c = node_typed _ _ _ _ _ _ _ c.at_level.ensures

@@ -1,5 +1,5 @@
 -- `place_of`: the levels from the leaves up, until the page is on one of them.
-use Prim.Native.Nat.{◌-◌, ◌≤◌, ◌<◌}
+use Prim.Native.Nat.{◌≤◌, ◌<◌}
 use Rattle.area_load.specs.Placed.{Rungs}
 use Rattle.area_load.proofs.place_of.Given as goal
 

@@ -1,22 +1,20 @@
 -- `store_first`: after k turns the first k stores are made.
-use borrow.Author.Rules.{rules}
 use native.Mathlib.Omega.{arith}
 use mathlib.Core.Path.{refl, ◌∙◌}
-use Prim.Native.Nat.{◌-◌}
 use Rattle.area_lengths.specs.Lent.{lent}
 use Rattle.area_store.specs.Steps.{fits_still, none_made, one_more, all_made}
 use Rattle.area_store.proofs.store_first.Goals as goal
 
 pub loop-k-init : goal.loop-k-init
-loop-k-init c = (search rules, refl, refl, λ ts h. none_made ts _)
+loop-k-init c = (refl, refl, λ ts h. none_made ts _)
 
 pub store_one-requires : goal.store_one-requires
 store_one-requires c =
     let a = c.args in
     let l = c.loop-k in (
-      omega (arith, c.loop-k-test.true, c.fewer-n.ensures),
-      fits_still a.s a.wp.now a.sp.now a.wl.now a.sl.now l.sp l.sl l.invariant.1 l.invariant.2 c.requires,
-      record { start = lent a.wp.now a.sp.now a.wl.now a.sl.now; leads = l.invariant.3 },
+      omega (arith, c.loop-k-test.true, c.min-n.ensures),
+      fits_still a.s a.wp.now a.sp.now a.wl.now a.sl.now l.sp l.sl l.invariant.0 l.invariant.1 c.requires,
+      record { start = lent a.wp.now a.sp.now a.wl.now a.sl.now; leads = l.invariant.2 },
     )
 
 pub loop-k-preserved : goal.loop-k-preserved
@@ -24,15 +22,14 @@ loop-k-preserved c =
     let a = c.args in
     let l = c.loop-k in
     let o = c.store_one in (
-      search rules,
-      o.auto.sp ∙ l.invariant.1,
-      o.auto.sl ∙ l.invariant.2,
-      λ ts h. one_more a.s l.k a.wp.now a.wl.now ts h (omega (arith, c.loop-k-test.true, c.fewer-n.ensures)) _ _ _ (l.invariant.3 ts h) (o.ensures ts h),
+      o.auto.sp ∙ l.invariant.0,
+      o.auto.sl ∙ l.invariant.1,
+      λ ts h. one_more a.s l.k a.wp.now a.wl.now ts h (omega (arith, c.loop-k-test.true, c.min-n.ensures)) _ _ _ (l.invariant.2 ts h) (o.ensures ts h),
     )
 
 pub returns : goal.returns
 returns c ts h =
     let a = c.args in
     let l = c.loop-k in
-    let n = c.fewer-n in
-    all_made a.s a.wp.now a.wl.now ts h a.budget n.result l.k n.ensures l.invariant.0 (omega (arith, c.loop-k-test.false)) _ _ (l.invariant.3 ts h)
+    let n = c.min-n in
+    all_made a.s a.wp.now a.wl.now ts h a.budget n.result l.k n.ensures (omega arith) (omega (arith, c.loop-k-test.false)) _ _ (l.invariant.2 ts h)

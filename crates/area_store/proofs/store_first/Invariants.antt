@@ -1,13 +1,9 @@
 -- `store_first`: after k turns the first k stores are made.
 use mathlib.Core.Path.{◌≡◌}
-use Prim.Native.Nat.{◌-◌, ◌≤◌}
 use lib.ListN.{length}
 use Rattle.area_lengths.specs.Lent.{lent}
 use Rattle.area_store.specs.Lists.{Leads}
 use Rattle.area_store.proofs.store_first.Given as goal
 
 abbrev pub invariant-loop-k : goal.invariant-loop-k
-invariant-loop-k l = (l.k ≤ l.n) × (length l.sp ≡ length l.initial.sp) × (length l.sl ≡ length l.initial.sl) × Leads l.s l.k l.wp l.wl (lent l.wp l.initial.sp l.wl l.initial.sl) (lent l.wp l.sp l.wl l.sl)
-
-abbrev pub decreases-loop-k : goal.decreases-loop-k
-decreases-loop-k l = l.n - l.k
+invariant-loop-k l = (length l.sp ≡ length l.initial.sp) × (length l.sl ≡ length l.initial.sl) × Leads l.s l.k l.wp l.wl (lent l.wp l.initial.sp l.wl l.initial.sl) (lent l.wp l.sp l.wl l.sl)

@@ -1,9 +1,10 @@
--- `kind_ok`: by the level.
-use Rattle.tree_check.specs.Nodes.{leaf_kind, index_kind}
+-- `kind_ok`: the kind that the level asks for.
+use mathlib.Core.Path.{ap, ◌∙◌}
+use Rattle.def_layout.specs.Pages.{kind_is}
+use Rattle.law_bytes.specs.PageKinds.{same_kind}
+use Rattle.codec_page.specs.Typed.{typed}
 use Rattle.tree_check.proofs.kind_ok.Goals as goal
 
-pub returns-then-level-eq0 : goal.returns-then-level-eq0
-returns-then-level-eq0 c = let a = c.args in leaf_kind a.x a.level c.if-level-eq0.true
-
 pub returns : goal.returns
-returns c = let a = c.args in index_kind a.x a.level c.if-level-eq0.false
+unfolding typed
+returns c = let k = c.args.x.kind in c.eq.ensures ∙ same_kind k c.at_level.result ∙ ap (λ l. kind_is k l) c.at_level.ensures
