@@ -1,8 +1,8 @@
 // Slots that are a matter of the first row alone: judged with no copy of the rows.
-ghost use Rattle.std.specs.Prelude.{◌≡◌, true, false, ◌<◌, slice_index_or};
+ghost use Rattle.std.specs.Prelude.{◌≡◌, true, false, ◌≤◌, ◌<◌, slice_index_or};
+ghost use Rattle.def_layout.specs.Sizes.{most_slots};
 ghost use Rattle.def_layout.specs.Desks.{row_at};
 ghost use Rattle.law_bytes.specs.AreaSizes.{HasSlots};
-ghost use Rattle.law_bytes.specs.DeskRows.{LowRows};
 ghost use Rattle.log_judge.specs.Alone.{Alone, GoesOnFirst};
 
 use super::slots::{batch_at, is_change, update_at};
@@ -20,7 +20,7 @@ fn goes_on_first(batches: &Batches, t: Told) -> bool
 
 // The first row after an update of its batch, at slot i.
 fn first_update(log: &[u8], m: usize, n: usize, i: usize, batches: &Batches) -> Option<Row>
-    requires { HasSlots m log.now × (i < m) × LowRows batches.now.rows }
+    requires { HasSlots m log.now × (i < m) × ((row_at batches.now.rows 0).pending ≤ most_slots) }
     ensures { Alone n m log.now i batches.now result }
 {
     let t = update_at(log, m, n, i)?;
@@ -59,7 +59,7 @@ fn first_batch(log: &[u8], m: usize, n: usize, i: usize, batches: &Batches) -> O
 // The first row after slot i, where that leaves the other rows and all marks as they are: an update of its batch, a change of the tree, a begin or a
 // commit. None says nothing of the slot.
 pub fn alone(log: &[u8], m: usize, n: usize, i: usize, batches: &Batches) -> Option<Row>
-    requires { HasSlots m log.now × (i < m) × LowRows batches.now.rows }
+    requires { HasSlots m log.now × (i < m) × ((row_at batches.now.rows 0).pending ≤ most_slots) }
     ensures { Alone n m log.now i batches.now result }
 {
     if let Some(updated) = first_update(log, m, n, i, batches) {

@@ -15,7 +15,7 @@ alone-requires c =
     let a = c.args in
     let l = c.loop-i in
     let q = c.requires in
-    (q, c.loop-i-test.true, going_low a.n a.m a.log.now l.i l.batches q.1 l.invariant)
+    (q, c.loop-i-test.true, going_low a.n a.m a.log.now l.i l.batches q.1 l.invariant 0)
 
 pub loop-i-preserved-in-Some : goal.loop-i-preserved-in-Some
 loop-i-preserved-in-Some c =

@@ -4,7 +4,7 @@ use Rattle.log_judge.specs.Alone.{alone_update}
 use Rattle.log_judge.proofs.first.first_update.Goals as goal
 
 pub longer-requires : goal.longer-requires
-longer-requires c = c.requires.2 0
+longer-requires c = c.requires.2
 
 pub returns : goal.returns
 returns c =
