@@ -160,15 +160,17 @@ fn lines_free(log: &[u8], m: usize, row: Row, from: u32, count: u32) -> bool
     requires { HasSlots m log.now }
     ensures { FreeSays m log.now row from count result }
 {
-    let mut at = from;
-    for passed in 0..count {
-        let x = line_at(log, m, at);
-        if has_key(log, m, row.undo, row.pending, x.key) {
-            return false;
-        }
-        at = x.below;
-    }
-    true
+    newest_with(
+        log,
+        m,
+        from,
+        count,
+        |key| -> bool
+            requires { HasSlots m log.now }
+            ensures { KeysSay (λ k. eqb key k) m log.entry.now row.undo row.pending result }
+        { has_key(log, m, row.undo, row.pending, key) },
+    )
+    .is_none()
 }
 
 // 01: "pending records on a key are of one batch": row i against those behind it.
