@@ -18,13 +18,9 @@ use Rattle.codec_entries.specs.Places.{look_here, look_other, look_past}
 use Rattle.codec_entries.specs.Arrays.{used_take}
 use Rattle.def_model.specs.Fit.{found, found_value, after, last_key_is, link_fits, side_by_side}
 
--- Two tests, named so that a proof can go by their parts.
-unfoldable pub also : Bool → Bool → Bool
-also a b = a && b
-
-pub both_of : {t a b a' b' : Bool} → t ≡ also a b → a ≡ a' → b ≡ b' → t ≡ a' && b'
-unfolding also
-both_of {t} {a} {b} {a'} {b'} e p q = e ∙ ap₂ (λ (x y : Bool). x && y) p q
+-- Two tests, each by what it says.
+pub both_of : {a b a' b' : Bool} → a ≡ a' → b ≡ b' → (a && b) ≡ (a' && b')
+both_of p q = ap₂ (λ (x y : Bool). x && y) p q
 
 -- ---- numbers
 

@@ -1,4 +1,5 @@
-// The rows of tree changes: split to lower, on page A and on page B.
+// The rows of tree changes: split to lower, on page A and on page B. Tests are joined by `&`, in the order and the grouping of the definitions: by `&&` each
+// would be an end of its own in every proof, and none of them costs more than the page that was read.
 ghost use Rattle.std.specs.Prelude.{◌≡◌, ◌≤◌};
 ghost use Rattle.def_layout.specs.Sizes.{room};
 ghost use Rattle.def_layout.specs.Records.{split, link, unlink, merge, redistribute, raise, lower};
@@ -11,7 +12,7 @@ ghost use Rattle.record_apply.specs.Pages.{rec};
 use super::entries::{
     ends_with, in_order, last_joined, last_key_is, link_fits, side_by_side, starts_with,
 };
-use super::pages::{above_level, at_level, both, children_in, has_room, is_index, is_node};
+use super::pages::{above_level, at_level, children_in, has_room, is_index, is_node};
 use codec_entries::{entry_in, same_list};
 use codec_page::Page;
 use def_layout::ROOM;
@@ -28,8 +29,8 @@ pub fn split_fits(r: Record, x: Page, n: usize) -> bool
     let level = at_level(x, r.level);
     let ends = ends_with(es, n, fs, m);
     let last = last_key_is(es, k, r.key);
-    let tail = both(ends, both(last, x.right == r.right));
-    both(level, both(n == ROOM, tail))
+    let tail = ends & (last & (x.right == r.right));
+    level & ((n == ROOM) & tail)
 }
 
 pub fn link_row_fits(r: Record, x: Page, n: usize) -> bool
@@ -40,7 +41,7 @@ pub fn link_row_fits(r: Record, x: Page, n: usize) -> bool
     let index = is_index(x);
     let room = has_room(n, 1);
     let linked = link_fits(es, n, r.b, r.key, r.second);
-    both(index, both(room, linked))
+    index & (room & linked)
 }
 
 pub fn unlink_fits(r: Record, x: Page, n: usize) -> bool
@@ -49,7 +50,7 @@ pub fn unlink_fits(r: Record, x: Page, n: usize) -> bool
 {
     let es = x.entries;
     let index = is_index(x);
-    both(index, side_by_side(es, n, r.b, r.key, r.c, r.second))
+    index & side_by_side(es, n, r.b, r.key, r.c, r.second)
 }
 
 pub fn merge_fits(r: Record, x: Page, n: usize) -> bool
@@ -63,8 +64,8 @@ pub fn merge_fits(r: Record, x: Page, n: usize) -> bool
     let room = has_room(n, m);
     let rising = in_order(es, n, fs, m);
     let children = children_in(x, fs, m);
-    let tail = both(x.right == r.b, both(rising, children));
-    both(node, both(room, tail))
+    let tail = (x.right == r.b) & (rising & children);
+    node & (room & tail)
 }
 
 pub fn merge_b_fits(r: Record, x: Page, n: usize) -> bool
@@ -76,7 +77,7 @@ pub fn merge_b_fits(r: Record, x: Page, n: usize) -> bool
     let m = r.count as usize;
     let node = is_node(x);
     let same = same_list(es, n, fs, m);
-    both(node, both(same, x.right == r.right))
+    node & (same & (x.right == r.right))
 }
 
 // A redistribution, on the page A that receives or gives.
@@ -91,12 +92,12 @@ fn share_a_fits(r: Record, x: Page, n: usize) -> bool
         let room = has_room(n, m);
         let last = last_joined(es, n, fs, m, r.key);
         let rising = in_order(es, n, fs, m);
-        let tail = both(rising, children_in(x, fs, m));
-        return both(room, both(last, tail));
+        let tail = rising & children_in(x, fs, m);
+        return room & (last & tail);
     }
     let k = n.saturating_sub(m);
     let ends = ends_with(es, n, fs, m);
-    both(ends, last_key_is(es, k, r.key))
+    ends & last_key_is(es, k, r.key)
 }
 
 pub fn redistribute_fits(r: Record, x: Page, n: usize) -> bool
@@ -105,7 +106,7 @@ pub fn redistribute_fits(r: Record, x: Page, n: usize) -> bool
 {
     let node = is_node(x);
     let shared = share_a_fits(r, x, n);
-    both(node, both(x.right == r.b, shared))
+    node & ((x.right == r.b) & shared)
 }
 
 // The same on page B.
@@ -121,7 +122,7 @@ fn share_b_fits(r: Record, x: Page, n: usize) -> bool
     }
     let room = has_room(n, m);
     let rising = in_order(fs, m, es, n);
-    both(room, both(rising, children_in(x, fs, m)))
+    room & (rising & children_in(x, fs, m))
 }
 
 pub fn redistribute_b_fits(r: Record, x: Page, n: usize) -> bool
@@ -129,7 +130,7 @@ pub fn redistribute_b_fits(r: Record, x: Page, n: usize) -> bool
     ensures { result ≡ fits_b redistribute (rec r) (typed x) }
 {
     let node = is_node(x);
-    both(node, share_b_fits(r, x, n))
+    node & share_b_fits(r, x, n)
 }
 
 pub fn raise_fits(r: Record, x: Page, n: usize) -> bool
@@ -141,7 +142,7 @@ pub fn raise_fits(r: Record, x: Page, n: usize) -> bool
     let m = r.count as usize;
     let level = at_level(x, r.level);
     let same = same_list(es, n, fs, m);
-    both(level, both(same, both(x.right == r.b, r.level < 15)))
+    level & (same & ((x.right == r.b) & (r.level < 15)))
 }
 
 pub fn lower_fits(r: Record, x: Page, n: usize) -> bool
@@ -151,7 +152,7 @@ pub fn lower_fits(r: Record, x: Page, n: usize) -> bool
     let es = x.entries;
     let level = above_level(x, r.level);
     let child = entry_in(es, n, 0).val;
-    both(level, both(n == 1, both(child == r.b, x.right == 0)))
+    level & ((n == 1) & ((child == r.b) & (x.right == 0)))
 }
 
 pub fn lower_b_fits(r: Record, x: Page, n: usize) -> bool
@@ -163,5 +164,5 @@ pub fn lower_b_fits(r: Record, x: Page, n: usize) -> bool
     let m = r.count as usize;
     let level = at_level(x, r.level);
     let same = same_list(es, n, fs, m);
-    both(level, both(same, x.right == 0))
+    level & (same & (x.right == 0))
 }

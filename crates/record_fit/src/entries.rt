@@ -5,7 +5,6 @@ ghost use Rattle.def_layout.specs.Entries.{look, same_entries};
 ghost use Rattle.def_model.specs.Fit.{found, found_value, after, nowhere, in_order, last_key_is, link_fits, side_by_side};
 ghost use Rattle.law_bytes.specs.EntryBytes.{used};
 
-use super::pages::both;
 use codec_entries::{find, same_list, upper_part};
 use def_layout::{Entry, ROOM};
 
@@ -120,8 +119,8 @@ pub fn link_fits(es: [Entry; ROOM], n: usize, b: u32, u: u32, w: u32) -> bool
         return false;
     }
     let e = es[i];
-    let between = both(ends_below(es, i, u), u < w);
-    both(e.key == w, both(e.val == b, between))
+    let between = ends_below(es, i, u) & (u < w);
+    (e.key == w) & ((e.val == b) & between)
 }
 
 // The entry found for u is (u, b), and the one after it (w, c).
@@ -135,6 +134,6 @@ pub fn side_by_side(es: [Entry; ROOM], n: usize, b: u32, u: u32, c: u32, w: u32)
     }
     let e = es[i];
     let f = es[i + 1];
-    let second = both(f.key == w, f.val == c);
-    both(e.key == u, both(e.val == b, second))
+    let second = (f.key == w) & (f.val == c);
+    (e.key == u) & ((e.val == b) & second)
 }

@@ -6,21 +6,11 @@ ghost use Rattle.def_layout.specs.declared.page.PageKind.TheVariants.{Free};
 ghost use Rattle.def_model.specs.Fit.{is_leaf, is_index, is_node, at_level, children_in};
 ghost use Rattle.law_bytes.specs.EntryBytes.{used};
 ghost use Rattle.codec_page.specs.Typed.{typed};
-ghost use Rattle.record_fit.specs.Tests.{also};
 
 use codec_entries::children_fit;
 use codec_page::Page;
 use def_layout::page::PageKind;
 use def_layout::{Entry, ROOM};
-
-pub fn both(a: bool, b: bool) -> bool
-    ensures { result ≡ also a b }
-{
-    if a {
-        return b;
-    }
-    false
-}
 
 pub fn is_leaf(x: Page) -> bool
     ensures { result ≡ is_leaf (typed x) }
@@ -53,7 +43,7 @@ pub fn at_level(x: Page, level: u32) -> bool
     ensures { result ≡ at_level level (typed x) }
 {
     let same = x.kind == PageKind::at_level(level);
-    both(same, x.level == level)
+    same & (x.level == level)
 }
 
 fn is_next(a: u32, level: u32) -> bool
@@ -70,7 +60,7 @@ pub fn above_level(x: Page, level: u32) -> bool
     ensures { result ≡ at_level (suc level) (typed x) }
 {
     let index = is_index(x);
-    both(index, is_next(x.level, level))
+    index & is_next(x.level, level)
 }
 
 pub fn has_room(n: usize, m: usize) -> bool

@@ -8,7 +8,7 @@ ghost use Rattle.codec_page.specs.Typed.{typed};
 ghost use Rattle.record_apply.specs.Pages.{rec};
 
 use super::entries::{has_entry, has_key, nowhere};
-use super::pages::{both, has_room, is_leaf};
+use super::pages::{has_room, is_leaf};
 use codec_page::Page;
 use record_apply::Record;
 
@@ -21,7 +21,7 @@ pub fn insert_fits(r: Record, x: Page, n: usize) -> bool
     let leaf = is_leaf(x);
     let room = has_room(n, 1);
     let new = nowhere(es, n, r.key);
-    both(leaf, both(room, new))
+    leaf & (room & new)
 }
 
 pub fn delete_fits(r: Record, x: Page, n: usize) -> bool
@@ -30,7 +30,7 @@ pub fn delete_fits(r: Record, x: Page, n: usize) -> bool
 {
     let es = x.entries;
     let leaf = is_leaf(x);
-    both(leaf, has_entry(es, n, r.key, r.second))
+    leaf & has_entry(es, n, r.key, r.second)
 }
 
 pub fn undo_insert_fits(r: Record, x: Page, n: usize) -> bool
@@ -39,5 +39,5 @@ pub fn undo_insert_fits(r: Record, x: Page, n: usize) -> bool
 {
     let es = x.entries;
     let leaf = is_leaf(x);
-    both(leaf, has_key(es, n, r.key))
+    leaf & has_key(es, n, r.key)
 }

@@ -3,9 +3,8 @@ use borrow.Author.Rules.{rules}
 use native.Mathlib.Omega.{arith}
 use mathlib.Core.Path.{subst, sym}
 use Prim.Native.Nat.{ℕ}
-use mathlib.Core.List.{List}
-use Rattle.def_layout.specs.Pages.{Page, at}
-use Rattle.record_pages.specs.Pages.{Pages, Reads, reads_map, reads_node, with_count}
+use Rattle.def_layout.specs.Pages.{at}
+use Rattle.record_pages.specs.Pages.{Reads, reads_map, reads_node, with_count}
 use Rattle.record_pages.proofs.page_at.Goals as goal
 
 pub returns-in-Map : goal.returns-in-Map

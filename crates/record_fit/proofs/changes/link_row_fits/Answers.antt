@@ -7,5 +7,5 @@ use Rattle.record_fit.proofs.changes.link_row_fits.Goals as goal
 pub returns : goal.returns
 returns c =
     let a = c.args in
-    both_of c.both-2.ensures c.is_index-index.ensures (both_of c.both.ensures c.has_room-room.ensures c.link_fits-linked.ensures)
+    both_of c.is_index-index.ensures (both_of c.has_room-room.ensures c.link_fits-linked.ensures)
     ∙ sym (link_row a.r a.x a.n c.requires.0)

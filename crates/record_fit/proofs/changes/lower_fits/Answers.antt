@@ -8,6 +8,6 @@ use Rattle.record_fit.proofs.changes.lower_fits.Goals as goal
 pub returns : goal.returns
 returns c =
     let a = c.args in
-    both_of c.both-3.ensures c.above_level-level.ensures
-    (both_of c.both-2.ensures refl (both_of c.both.ensures (ap (λ e. eqb e.val a.r.b) c.entry_in-child.ensures) refl))
+    both_of c.above_level-level.ensures
+    (both_of refl (both_of (ap (λ e. eqb e.val a.r.b) c.entry_in-child.ensures) refl))
     ∙ sym (lower_row a.r a.x a.n c.requires.0)

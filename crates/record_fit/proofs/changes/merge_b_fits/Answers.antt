@@ -7,5 +7,5 @@ use Rattle.record_fit.proofs.changes.merge_b_fits.Goals as goal
 pub returns : goal.returns
 returns c =
     let a = c.args in
-    both_of c.both-2.ensures c.is_node-node.ensures (both_of c.both.ensures c.same_list-same.ensures refl)
+    both_of c.is_node-node.ensures (both_of c.same_list-same.ensures refl)
     ∙ sym (merge_b_row a.r a.x a.n c.requires.0)

@@ -7,8 +7,8 @@ use Rattle.record_fit.proofs.changes.merge_fits.Goals as goal
 pub returns : goal.returns
 returns c =
     let a = c.args in
-    both_of c.both-3.ensures c.is_node-node.ensures
-    (both_of c.both-2.ensures c.has_room-room.ensures
-    (both_of c.both-tail.ensures refl
-    (both_of c.both.ensures c.in_order-rising.ensures c.children_in-children.ensures)))
+    both_of c.is_node-node.ensures
+    (both_of c.has_room-room.ensures
+    (both_of refl
+    (both_of c.in_order-rising.ensures c.children_in-children.ensures)))
     ∙ sym (merge_row a.r a.x a.n c.requires.0)

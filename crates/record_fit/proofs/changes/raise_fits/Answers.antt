@@ -7,6 +7,6 @@ use Rattle.record_fit.proofs.changes.raise_fits.Goals as goal
 pub returns : goal.returns
 returns c =
     let a = c.args in
-    both_of c.both-3.ensures c.at_level-level.ensures
-    (both_of c.both-2.ensures c.same_list-same.ensures (both_of c.both.ensures refl refl))
+    both_of c.at_level-level.ensures
+    (both_of c.same_list-same.ensures refl)
     ∙ sym (raise_row a.r a.x a.n c.requires.0)

@@ -7,5 +7,5 @@ use Rattle.record_fit.proofs.changes.redistribute_fits.Goals as goal
 pub returns : goal.returns
 returns c =
     let a = c.args in
-    both_of c.both-2.ensures c.is_node-node.ensures (both_of c.both.ensures refl c.share_a_fits-shared.ensures)
+    both_of c.is_node-node.ensures (both_of refl c.share_a_fits-shared.ensures)
     ∙ sym (share_row a.r a.x a.n c.requires.0)

@@ -7,13 +7,13 @@ use Rattle.record_fit.proofs.changes.share_a_fits.Goals as goal
 pub returns-then-into_a : goal.returns-then-into_a
 returns-then-into_a c =
     let a = c.args in
-    both_of c.both-then-into_a.ensures c.has_room-room.ensures
-    (both_of c.both.ensures c.last_joined-last.ensures
-    (both_of c.both-tail.ensures c.in_order-rising.ensures c.children_in.ensures))
+    both_of c.has_room-room.ensures
+    (both_of c.last_joined-last.ensures
+    (both_of c.in_order-rising.ensures c.children_in.ensures))
     ∙ sym (share_in_row a.r a.x a.n c.requires.0 (sym c.into_a.ensures ∙ c.if-into_a.true))
 
 pub returns : goal.returns
 returns c =
     let a = c.args in
-    both_of c.both-2.ensures c.ends_with-ends.ensures c.last_key_is.ensures
+    both_of c.ends_with-ends.ensures c.last_key_is.ensures
     ∙ sym (share_out_row a.r a.x a.n c.requires.0 c.saturating_sub-k.result c.saturating_sub-k.ensures (sym c.into_a.ensures ∙ c.if-into_a.false))

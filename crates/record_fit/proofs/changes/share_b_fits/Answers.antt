@@ -12,5 +12,5 @@ returns-then-into_a c =
 pub returns : goal.returns
 returns c =
     let a = c.args in
-    both_of c.both-2.ensures c.has_room-room.ensures (both_of c.both.ensures c.in_order-rising.ensures c.children_in.ensures)
+    both_of c.has_room-room.ensures (both_of c.in_order-rising.ensures c.children_in.ensures)
     ∙ sym (share_b_out_row a.r a.x a.n c.requires.0 (sym c.into_a.ensures ∙ c.if-into_a.false))

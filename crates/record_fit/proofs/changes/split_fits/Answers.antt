@@ -7,7 +7,7 @@ use Rattle.record_fit.proofs.changes.split_fits.Goals as goal
 pub returns : goal.returns
 returns c =
     let a = c.args in
-    both_of c.both-3.ensures c.at_level-level.ensures
-    (both_of c.both-2.ensures refl
-    (both_of c.both-tail.ensures c.ends_with-ends.ensures (both_of c.both.ensures c.last_key_is-last.ensures refl)))
+    both_of c.at_level-level.ensures
+    (both_of refl
+    (both_of c.ends_with-ends.ensures (both_of c.last_key_is-last.ensures refl)))
     ∙ sym (split_row a.r a.x a.n c.requires.0 c.saturating_sub-k.result c.saturating_sub-k.ensures)

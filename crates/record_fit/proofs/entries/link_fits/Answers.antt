@@ -9,5 +9,5 @@ returns-then-i-n c = let a = c.args in link_past a.n a.es a.b a.u a.w _ c.find-i
 pub returns : goal.returns
 returns c =
     let a = c.args in
-    both_of c.both-2.ensures refl (both_of c.both.ensures refl (both_of c.both-between.ensures c.ends_below.ensures refl))
+    both_of refl (both_of refl (both_of c.ends_below.ensures refl))
     ∙ link_here a.n a.es a.b a.u a.w c.find-i.result c.find-i.ensures.0 c.if-i-n.false

@@ -9,5 +9,4 @@ returns-then-i-n c = let a = c.args in side_none a.n a.es a.b a.u a.c a.w _ c.fi
 pub returns : goal.returns
 returns c =
     let a = c.args in
-    both_of c.both-2.ensures refl (both_of c.both.ensures refl (both_of c.both-second.ensures refl refl))
-    ∙ side_here a.n a.es a.b a.u a.c a.w c.find-i.result c.find-i.ensures.0 c.if-i-n.false
+    side_here a.n a.es a.b a.u a.c a.w c.find-i.result c.find-i.ensures.0 c.if-i-n.false

@@ -7,4 +7,4 @@ use Rattle.record_fit.proofs.slides.delete_fits.Goals as goal
 pub returns : goal.returns
 returns c =
     let a = c.args in
-    both_of c.both.ensures c.is_leaf-leaf.ensures c.has_entry.ensures ∙ sym (delete_row a.r a.x a.n c.requires.0)
+    both_of c.is_leaf-leaf.ensures c.has_entry.ensures ∙ sym (delete_row a.r a.x a.n c.requires.0)

@@ -7,5 +7,5 @@ use Rattle.record_fit.proofs.slides.insert_fits.Goals as goal
 pub returns : goal.returns
 returns c =
     let a = c.args in
-    let t = both_of c.both-2.ensures c.is_leaf-leaf.ensures (both_of c.both.ensures c.has_room-room.ensures c.nowhere-new.ensures) in
+    let t = both_of c.is_leaf-leaf.ensures (both_of c.has_room-room.ensures c.nowhere-new.ensures) in
     (t ∙ sym (insert_row a.r a.x a.n c.requires.0), t ∙ sym (undo_delete_row a.r a.x a.n c.requires.0))

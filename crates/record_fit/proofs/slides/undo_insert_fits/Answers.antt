@@ -7,4 +7,4 @@ use Rattle.record_fit.proofs.slides.undo_insert_fits.Goals as goal
 pub returns : goal.returns
 returns c =
     let a = c.args in
-    both_of c.both.ensures c.is_leaf-leaf.ensures c.has_key.ensures ∙ sym (undo_insert_row a.r a.x a.n c.requires.0)
+    both_of c.is_leaf-leaf.ensures c.has_key.ensures ∙ sym (undo_insert_row a.r a.x a.n c.requires.0)
