@@ -1,5 +1,5 @@
 -- The bytes of a leaf: an entry put in, or taken out, is a patch of the rest.
-use Rattle.std.specs.Prelude.{◌≡◌, refl, take}
+use Rattle.std.specs.Prelude.{◌≡◌, take}
 use Rattle.std.proofs.Math.Path.{ap, ap₂}
 use Rattle.std.proofs.Common.{sym, ◌∙◌, add_assoc, suc-add, length-append, take_at, take-take, drop-drop}
 use Prim.Native.Nat.{ℕ, zero, suc, ◌+◌, ◌-◌, ◌*◌, ◌<◌, ◌≤◌}

@@ -1,10 +1,10 @@
 -- The entries that a page's bytes show, and turns of the loop that looks for a key among them, from the last on.
-use Rattle.std.specs.Prelude.{◌≡◌, ℕ, suc, ◌+◌, ◌*◌, ◌<◌, ◌≤◌, Bool, true, false, ◌&&◌, drop, eqb, ltb}
+use Rattle.std.specs.Prelude.{◌≡◌, refl, ℕ, suc, ◌+◌, ◌*◌, ◌<◌, ◌≤◌, Bool, true, false, ◌&&◌, drop, eqb, ltb}
 use Rattle.std.proofs.Math.Path.{ap, ap₂}
 use Rattle.std.proofs.Common.{sym, ◌∙◌, arith}
 use Rattle.std.proofs.Math.Bool.{not}
 use mathlib.Core.List.{List}
-use Rattle.def_base.specs.Tests.{pick}
+use Rattle.def_base.specs.Tests.{pick, lt_true, lt_false}
 use Rattle.def_layout.specs.declared.Entry.{Entry}
 use Rattle.def_layout.specs.Entries.{entry_at, key_at, no_entry, place}
 use Rattle.def_layout.specs.Numbers.{be32, tab, read_entry}
@@ -40,6 +40,19 @@ pub pick_within : (t : Bool) (p j n q : ℕ) → p ≤ n → j ≤ n → q ≡ p
 pick_within true p j n q h g e = omega arith
 pick_within false p j n q h g e = omega arith
 
+-- Where the key of entry j is below k, the place that was found stays, else it is j.
+pub pick_here : (x k p j q : ℕ) → q ≡ j → k ≤ x → q ≡ pick (ltb x k) p j
+pick_here x k p j q e h = e ∙ sym (ap (λ (t : Bool). pick t p j) (lt_false x k h))
+
+pub pick_kept : (x k p j q : ℕ) → q ≡ p → x < k → q ≡ pick (ltb x k) p j
+pick_kept x k p j q e h = e ∙ sym (ap (λ (t : Bool). pick t p j) (lt_true x k h))
+
+other_way : (s t : Bool) → s && t ≡ t && s
+other_way true true = refl
+other_way true false = refl
+other_way false true = refl
+other_way false false = refl
+
 module _ (b : List ℕ) (n k i j x : ℕ) (z : i ≡ j + 1) (h : j < n) (few : n ≤ room) (e : x ≡ be32 b (16 + 8 * j)) where
   abbrev rest : ℕ → List Entry
   rest m = drop m (used n (shown b))
@@ -55,10 +68,11 @@ module _ (b : List ℕ) (n k i j x : ℕ) (z : i ≡ j + 1) (h : j < n) (few : n
       ∙ ap (λ (y : ℕ). j + pick (ltb y k) (suc (place k (rest (j + 1)))) 0) key_is
       ∙ ap (λ (es : List Entry). j + place k es) (sym (used_cons (shown b) n j h))
 
-  pub nowhere_turn : (s t : Bool) → s ≡ nowhere k (rest i) → t ≡ (not (eqb x k) && s) → t ≡ nowhere k (rest j)
+  pub nowhere_turn : (s t : Bool) → s ≡ nowhere k (rest i) → t ≡ (s && not (eqb x k)) → t ≡ nowhere k (rest j)
   unfolding nowhere
   nowhere_turn s t f g =
       g
+      ∙ other_way s (not (eqb x k))
       ∙ ap₂ (λ (y : ℕ) (m : Bool). not (eqb y k) && m) key_is (f ∙ ap (λ (m : ℕ). nowhere k (rest m)) z)
       ∙ ap (λ (es : List Entry). nowhere k es) (sym (used_cons (shown b) n j h))
 

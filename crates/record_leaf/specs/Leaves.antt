@@ -4,7 +4,7 @@ use Rattle.std.proofs.Math.Path.{ap, ap₂, sym, subst}
 use Rattle.std.proofs.Common.{◌∙◌, mod-lt, length-append, length-drop, length-take-le, get_or-take, get_or-drop, get_or-append-add, lit<}
 use Rattle.std.proofs.Math.Nat.{mod-eq_of_lt}
 use native.Mathlib.Omega.{arith}
-use mathlib.Core.List.{List, [], ◌∷◌, ◌++◌, append_assoc}
+use mathlib.Core.List.{List, ◌∷◌, ◌++◌, append_assoc}
 use Rattle.std.proofs.Math.ListN.{length, get_or-append, get_or-eq_default}
 use Rattle.std.proofs.Math.Seq.{take_all}
 use Rattle.def_base.specs.Tests.{and_both, le_true, eq_true}
@@ -20,7 +20,7 @@ use Rattle.law_bytes.specs.Words.{part}
 use Rattle.law_bytes.specs.Patch.{patch}
 use Rattle.law_bytes.specs.Chunks.{chunks_same}
 use Rattle.law_bytes.specs.EntryBytes.{used, used_in}
-use Rattle.law_bytes.specs.PageKinds.{kind_back, kind_lt}
+use Rattle.law_bytes.specs.PageKinds.{kind_back}
 use Rattle.law_bytes.specs.PageBytes.{front_word, page_front_length, word_0, page_fields_back, Fits, NodeFits, BodyFits}
 use Rattle.codec_entries.specs.Places.{insert_sorted_place, remove_key_place, look_here}
 use Rattle.record_leaf.specs.Keys.{shown, used_shown}

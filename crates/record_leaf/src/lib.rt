@@ -24,47 +24,28 @@ const LAST_KEY_AT: usize = page::ENTRIES_AT - ENTRY_SIZE;
 
 const LAST_VALUE_AT: usize = page::VALUES_AT - ENTRY_SIZE;
 
-// Where a key belongs among entries, and whether none of them has it, in order or not.
+// Where a key belongs among entries, and whether none of them has it. Both are told of any page: where keys do not rise, a key may stand elsewhere than
+// where it belongs, so neither of the two follows from the other.
 #[derive(Clone, Copy)]
 struct Sought {
     place: u8,
     missing: bool,
 }
 
-// With entry i before the others, which has the key x: where k belongs now.
-fn place_with(place: u8, i: u8, x: u32, k: u32) -> u8
-    ensures { result ≡ pick (ltb x k) place i }
-{
-    if x < k {
-        return place;
-    }
-    i
-}
-
-// And whether it is still missing.
-fn missing_with(missing: bool, x: u32, k: u32) -> bool
-    ensures { result ≡ (not (eqb x k) && missing) }
-{
-    if x == k {
-        return false;
-    }
-    missing
-}
-
 // Among n entries, in 8 bits as `find`: the place of the first whose key is not below k, or n. All are looked at, from the last on, and no test
 // ends the loop: where a key stands cannot be foreseen, and a jump that was guessed wrong takes longer than the other entries.
 fn seek(b: &[u8], n: u8, k: u32) -> Sought
     requires { (length b.now ≡ page_size) × (n ≤ room) }
-    ensures { (result.place ≡ place k (used n (shown b.now))) × (result.missing ≡ nowhere k (used n (shown b.now))) × (result.place ≤ n) }
+    ensures place { result.place ≡ place k (used n (shown b.now)) }
+    ensures missing { result.missing ≡ nowhere k (used n (shown b.now)) }
+    ensures within { result.place ≤ n }
 {
     let mut place = n;
     let mut missing = true;
-    let mut i = n;
-    while 0 < i {
-        i -= 1;
-        let x = get32(b, page::ENTRIES_AT + ENTRY_SIZE * (i as usize));
-        place = place_with(place, i, x, k);
-        missing = missing_with(missing, x, k);
+    for i in (0..n).rev() {
+        let x = get32(b, page::ENTRIES_AT + ENTRY_SIZE * usize::from(i));
+        place = if x < k { place } else { i };
+        missing &= x != k;
     }
     Sought { place, missing }
 }
@@ -151,8 +132,7 @@ fn strike_slide(b: &mut [u8], own: u32, k: u32, v: u32) -> bool
     }
     let mut old = [0u8; ENTRIES_SIZE];
     copy(&mut old, &b[page::ENTRIES_AT..PAGE_SIZE]);
-    let s = seek(b, n as u8, k);
-    let i = s.place as usize;
+    let i = seek(b, n as u8, k).place as usize;
     if i >= n {
         return false;
     }

@@ -1,5 +1,5 @@
 -- Records that are done at once: those that change no page, and inserts and deletes at the bytes of their page.
-use Rattle.std.specs.Prelude.{◌≡◌, refl, ℕ, zero, suc, ◌+◌, ◌-◌, ◌*◌, ◌/◌, ◌%◌, ◌<◌, ◌≤◌, Bool, length, get_or, take, drop, eqb, ltb}
+use Rattle.std.specs.Prelude.{◌≡◌, refl, ℕ, zero, suc, ◌+◌, ◌-◌, ◌*◌, ◌/◌, ◌%◌, ◌<◌, ◌≤◌, Bool, length, get_or, take, drop}
 use Rattle.std.proofs.Math.Path.{ap, sym, subst}
 use Rattle.std.proofs.Common.{◌∙◌, mul-zero, arith, take-append-drop, take_at}
 use Rattle.std.proofs.Math.Nat.{add-sub_cancel_left}
@@ -9,22 +9,22 @@ use mathlib.Core.List.{List, [], ◌∷◌, ◌++◌}
 use Rattle.std.proofs.Math.ListN.{set}
 use Rattle.std.proofs.Math.Seq.{drop-append-add}
 use Rattle.std.proofs.lemmas.List.{set-get_or}
-use Rattle.def_base.specs.Tests.{pick, clash, lt_true, lt_false, eq_true}
+use Rattle.def_base.specs.Tests.{clash, lt_true, lt_false, eq_true}
 use Rattle.def_layout.specs.Pages.{Page, at, zero_page}
 use Rattle.def_layout.specs.PageBytes.{page_bytes}
 use Rattle.def_layout.specs.declared.Entry.{Entry}
 use Rattle.def_layout.specs.Entries.{entry_at, no_entry}
 use Rattle.def_layout.specs.Numbers.{be32, tab, read_entry, same_bytes, zeros}
-use Rattle.def_layout.specs.Records.{Rec, Kind, kind_of, begin, insert, delete, commit}
-use Rattle.def_layout.specs.RecordBytes.{Slot, empty, full, other, record_bytes, record_fields, full_by, slot_by, read_slot}
+use Rattle.def_layout.specs.Records.{Rec, Kind, kind_of}
+use Rattle.def_layout.specs.RecordBytes.{empty, full, record_bytes, record_fields, full_by, slot_by, read_slot}
 use Rattle.def_layout.specs.Sizes.{page_size, slot_size}
-use Rattle.def_model.specs.Change.{Shape, changes, shape, Role, as_a, role, act, with_lsn, cut_to_size, change_a, change}
+use Rattle.def_model.specs.Change.{changes, shape, Role, as_a, role, act, with_lsn, cut_to_size, change_a, change}
 use Rattle.def_model.specs.Fit.{fits_role, fits_a, fits}
 use Rattle.def_model.specs.Redo.{when_named, places, is_lower, redo_at, redo_page, redo_places, count_places, fits_places}
 use Rattle.law_bytes.specs.Words.{part}
 use Rattle.law_bytes.specs.Patch.{patch, patch_back}
 use Rattle.law_bytes.specs.Pieces.{write_all, read_all_at}
-use Rattle.law_bytes.specs.PageBytes.{Fits, page_bytes_length, word_8}
+use Rattle.law_bytes.specs.PageBytes.{page_bytes_length, word_8}
 use Rattle.law_bytes.specs.PageAreas.{pages_bytes}
 use Rattle.law_bytes.specs.Tables.{tab_length, tab_same, getD_tab}
 use Rattle.law_bytes.specs.EntryBytes.{used}
@@ -36,14 +36,14 @@ use Rattle.record_apply.specs.Pages.{rec}
 use Rattle.record_leaf.specs.Leaves.{Does}
 use Rattle.record_pages.specs.Pages.{Pages, pages_put, bare_bytes}
 use Rattle.record_pages.specs.Records.{Keeps}
-use Rattle.record_redo.specs.Outcomes.{Answers, pair, nothing, none_answers, one_record, in_places, followed_nothing}
+use Rattle.record_redo.specs.Outcomes.{Counted, pair, none_count, one_record, followed_nothing}
 use Rattle.record_redo.specs.Slots.{Tells, is_full, full_record}
 
 -- DONE, of whatever record stands in slot i and of whatever pages the area shows: every change fits, and so many were applied.
 abbrev pub Done : ℕ → ℕ → List ℕ → List ℕ → ℕ → List ℕ → ℕ → Type 0
 Done n m pages log i after count =
     (xs : List Page) (own : ℕ) (q : Rec) → Pages n pages xs [] → get_or (slots_of m log) i empty ≡ full own q → Keeps (i + 1) q
-    → Answers n after (record { ok = true; count = count }) (one_record (i + 1) q xs)
+    → Counted n after count (one_record (i + 1) q xs)
 
 -- The i-th part of width w, as it is lent; as it was again; and come back.
 abbrev pub lent : ℕ → ℕ → List ℕ → List ℕ
@@ -129,7 +129,7 @@ pub no_page : (n m i w : ℕ) (pages log : List ℕ) → i < m → w ≡ be32 (p
 unfolding places when_named redo_places count_places fits_places
 no_page n m i w pages log h e s xs own q shows stands keeps =
     let z : shape q.kind ≡ changes false false false false = ap shape (kind_shown m i log h own q stands w e) ∙ s in
-    subst (Answers n pages (record { ok = true; count = 0 })) (rw z refl) (none_answers xs shows)
+    subst (Counted n pages 0) (rw z refl) (none_count xs shows)
 
 -- ---- one page
 
@@ -170,28 +170,28 @@ module _ (k : ℕ) (q : Rec) (xs : List Page) (alone : shape q.kind ≡ changes 
 
   module _ {n : ℕ} {pages : List ℕ} (shows : Pages n pages xs []) where
     -- Its number is not lower.
-    pub higher : k ≤ (at xs q.pageA).lsn → Answers n pages (record { ok = true; count = 0 }) (one_record k q xs)
+    pub higher : k ≤ (at xs q.pageA).lsn → Counted n pages 0 (one_record k q xs)
     unfolding redo_page redo_at
     higher l =
         let t : is_lower k q.pageA xs ≡ false = lt_false (at xs q.pageA).lsn k l in
         let c : redo_page k q q.pageA xs ≡ set xs q.pageA (at xs q.pageA) = rw t in
-        subst (Answers n pages (record { ok = true; count = 0 })) (sym one_page)
-        (record { fits = rw t refl; count = λ w. rw t refl; pages = λ w. subst (λ (ys : List Page). Pages n pages ys []) (sym (set-get_or xs q.pageA zero_page) ∙ sym c) shows })
+        subst (Counted n pages 0) (sym one_page)
+        (record { fits = rw t refl; counts = rw t refl; pages = subst (λ (ys : List Page). Pages n pages ys []) (sym (set-get_or xs q.pageA zero_page) ∙ sym c) shows })
 
     -- It is lower, the page fits, and its bytes are those of the page that the change makes.
     pub made : {after : List ℕ} → q.pageA < n → (at xs q.pageA).lsn < k → fits_a q.kind q (at xs q.pageA) ≡ true
         → after ≡ patch pages (page_size * q.pageA) (page_bytes (with_lsn k (cut_to_size (change_a q.kind q (at xs q.pageA))))) → Keeps k q
-        → Answers n after (record { ok = true; count = 1 }) (one_record k q xs)
+        → Counted n after 1 (one_record k q xs)
     unfolding redo_page redo_at
     made {after} h l f e keeps =
         let x : Page = at xs q.pageA in
         let t : is_lower k q.pageA xs ≡ true = lt_true x.lsn k l in
         let c : redo_page k q q.pageA xs ≡ set xs q.pageA (act q.pageA k q x) = rw t in
-        subst (Answers n after (record { ok = true; count = 1 })) (sym one_page)
+        subst (Counted n after 1) (sym one_page)
         (record {
-          fits = rw t (sym (fits_is x ∙ f));
-          count = λ w. rw t refl;
-          pages = λ w. subst (λ (ys : List Page). Pages n after ys []) (sym c) (pages_put q.pageA (act q.pageA k q x) h (e ∙ ap (λ (y : Page). patch pages (page_size * q.pageA) (page_bytes y)) (sym (act_is x))) xs [] shows (keeps q.pageA x (fits_past xs shows.fits q.pageA)));
+          fits = rw t (fits_is x ∙ f);
+          counts = rw t refl;
+          pages = subst (λ (ys : List Page). Pages n after ys []) (sym c) (pages_put q.pageA (act q.pageA k q x) h (e ∙ ap (λ (y : Page). patch pages (page_size * q.pageA) (page_bytes y)) (sym (act_is x))) xs [] shows (keeps q.pageA x (fits_past xs shows.fits q.pageA)));
         })
 
 -- ---- inserts and deletes

@@ -1,5 +1,5 @@
 -- A log area that shows records, and their redo one record after the other.
-use Rattle.std.specs.Prelude.{◌≡◌, refl, ℕ, zero, suc, ◌+◌, ◌<◌, ◌≤◌, true, false, List, [], ◌∷◌, ◌++◌, length, get_or, take, drop}
+use Rattle.std.specs.Prelude.{◌≡◌, refl, ℕ, zero, suc, ◌+◌, ◌<◌, ◌≤◌, false, List, [], ◌∷◌, ◌++◌, length, get_or, take, drop, Option, Some, None}
 use Rattle.std.proofs.Common.{ap, sym, ◌∙◌, subst, arith, take-suc, get_or-take, length-take-le}
 use Rattle.std.proofs.Math.Seq.{split_at, take-length}
 use Rattle.def_layout.specs.Pages.{Page}
@@ -16,9 +16,8 @@ use Rattle.record_apply.specs.declared.Record.{Record}
 use Rattle.record_apply.specs.Pages.{rec}
 use Rattle.record_pages.specs.Pages.{Pages}
 use Rattle.record_pages.specs.Records.{Keeps}
-use Rattle.record_redo.specs.declared.Redone.{Redone}
 use Rattle.record_redo.specs.Slots.{Tells}
-use Rattle.record_redo.specs.Outcomes.{Answers, one_record, whole, followed, followed_assoc, followed_nothing, nothing_followed, none_answers, was_misfit, both_answer, is_misfit}
+use Rattle.record_redo.specs.Outcomes.{Outcome, Counted, Answers, one_record, whole, followed, followed_assoc, followed_nothing, nothing_followed, none_count, was_misfit, is_misfit, both_count}
 
 -- The records stand in the area's first slots, and each fits its slot.
 pub record Logged (m : ℕ) (area : List ℕ) (l : List Rec) : Type 0 where
@@ -82,28 +81,27 @@ whole_append k (r ∷ l) l' xs =
 -- Of any pages and any log of so many records that the areas showed at the start: after i turns the first i are done.
 abbrev pub Turned : ℕ → ℕ → ℕ → List ℕ → List ℕ → List ℕ → ℕ → ℕ → Type 0
 Turned n m logged pages log now count i =
-    (xs : List Page) (l : List Rec) → Pages n pages xs [] → Logged m log l → length l ≡ logged → Answers n now (record { ok = true; count = count }) (whole 1 (take i l) xs)
+    (xs : List Page) (l : List Rec) → Pages n pages xs [] → Logged m log l → length l ≡ logged → Counted n now count (whole 1 (take i l) xs)
 
 pub no_turn : (n m logged : ℕ) (pages log : List ℕ) → Turned n m logged pages log pages 0 0
 unfolding replay redo_count redo_fits
-no_turn n m logged pages log xs l h g e = none_answers xs h
+no_turn n m logged pages log xs l h g e = none_count xs h
 
 -- One turn, of whatever record stands in slot i.
-abbrev pub Slot : ℕ → ℕ → List ℕ → List ℕ → ℕ → List ℕ → Redone → Type 0
+abbrev pub Slot : ℕ → ℕ → List ℕ → List ℕ → ℕ → List ℕ → Option ℕ → Type 0
 Slot n m before area i after d =
     (xs : List Page) (own : ℕ) (q : Rec) → Pages n before xs [] → get_or (slots_of m area) i empty ≡ full own q → length q.entries ≤ 14 → Keeps (i + 1) q
     → Answers n after d (one_record (i + 1) q xs)
 
 -- The long way does it, on pages that are as they were.
-pub long_way : {n : ℕ} {before mid after : List ℕ} (m i : ℕ) (area : List ℕ) (r : Record) (d : Redone) → Tells m area i r → mid ≡ before
+pub long_way : {n : ℕ} {before mid : List ℕ} (after : List ℕ) (m i : ℕ) (area : List ℕ) (r : Record) (d : Option ℕ) → Tells m area i r → mid ≡ before
     → ((xs : List Page) → Pages n mid xs [] → Keeps (i + 1) (rec r) → Answers n after d (one_record (i + 1) (rec r) xs)) → Slot n m before area i after d
-long_way {n} {after = after} m i area r d tells same a xs own q shows stands few keeps =
+long_way {n} after m i area r d tells same a xs own q shows stands few keeps =
     let e : rec r ≡ q = tells own q stands few in
     subst (λ (x : Rec). Answers n after d (one_record (i + 1) x xs)) e (a xs (subst (λ (b : List ℕ). Pages n b xs []) (sym same) shows) (subst (Keeps (i + 1)) (sym e) keeps))
 
-module _ {n m : ℕ} {area before after : List ℕ} (i count : ℕ) (d : Redone) (turn : Slot n m before area i after d) where
-  module _ (xs : List Page) (l : List Rec) (g : Logged m area l) (h : i < length l)
-      (s : Answers n before (record { ok = true; count = count }) (whole 1 (take i l) xs)) where
+module _ {n m : ℕ} {area before : List ℕ} (after : List ℕ) (i count : ℕ) (d : Option ℕ) (turn : Slot n m before area i after d) where
+  module _ (xs : List Page) (l : List Rec) (g : Logged m area l) (h : i < length l) (s : Counted n before count (whole 1 (take i l) xs)) where
     abbrev q : Rec
     q = get_or l i no_rec
 
@@ -111,33 +109,33 @@ module _ {n m : ℕ} {area before after : List ℕ} (i count : ℕ) (d : Redone)
     ys = replay 1 (take i l) xs
 
     one : Answers n after d (one_record (i + 1) q ys)
-    one = turn ys (1 + i) q (s.pages refl) (stands_at l g i h no_rec) (fit_at 1 l i no_rec h g.fits).count (keeps_at l g i h no_rec)
+    one = turn ys (1 + i) q s.pages (stands_at l g i h no_rec) (fit_at 1 l i no_rec h g.fits).count (keeps_at l g i h no_rec)
 
     number : 1 + length (take i l) ≡ i + 1
     number = omega (arith, length-take-le i l (omega arith))
 
-    pub turn_on : d.ok ≡ true → Answers n after (record { ok = true; count = count + d.count }) (whole 1 (take (i + 1) l) xs)
-    turn_on f =
-        let e : suc i ≡ i + 1 = omega arith in
+    pub turn_on : {applied : ℕ} → d ≡ Some applied → Counted n after (count + applied) (whole 1 (take (i + 1) l) xs)
+    turn_on {applied} e =
+        let e₁ : suc i ≡ i + 1 = omega arith in
         let w : followed (whole 1 (take i l) xs) (one_record (i + 1) q ys) ≡ whole 1 (take (i + 1) l) xs =
-        sym (ap (λ (k : ℕ). whole 1 (take k l) xs) (sym e)
+        sym (ap (λ (k : ℕ). whole 1 (take k l) xs) (sym e₁)
         ∙ ap (λ (z : List Rec). whole 1 z xs) (take-suc l i no_rec h)
         ∙ whole_append 1 (take i l) (q ∷ []) xs
         ∙ ap (followed (whole 1 (take i l) xs)) (record_alone (1 + length (take i l)) q ys ∙ ap (λ (k : ℕ). one_record k q ys) number)) in
-        subst (Answers n after (record { ok = true; count = count + d.count })) w (both_answer (record { ok = true; count = count }) (whole 1 (take i l) xs) s refl d (one_record (i + 1) q ys) one f)
+        subst (Counted n after (count + applied)) w (both_count s (subst (λ (o : Option ℕ). Answers n after o (one_record (i + 1) q ys)) e one))
 
-    pub turn_off : d.ok ≡ false → Answers n after d (whole 1 l xs)
-    turn_off f =
+    pub turn_off : d ≡ None → (whole 1 l xs).fits ≡ false
+    turn_off e =
         let rest : List Rec = drop (suc i) l in
         let zs : List Page = redo_record (i + 1) q ys in
         let w : followed (whole 1 (take i l) xs) (followed (one_record (i + 1) q ys) (whole (suc (i + 1)) rest zs)) ≡ whole 1 l xs =
         sym (ap (λ (z : List Rec). whole 1 z xs) (split_at l i no_rec h)
         ∙ whole_append 1 (take i l) (q ∷ rest) xs
         ∙ ap (followed (whole 1 (take i l) xs)) (ap (λ (k : ℕ). whole k (q ∷ rest) ys) number ∙ record_first (i + 1) q rest ys)) in
-        subst (Answers n after d) w
-        (is_misfit (record { ok = true; count = count }) (whole 1 (take i l) xs) s refl d (followed (one_record (i + 1) q ys) (whole (suc (i + 1)) rest zs))
-        (was_misfit d (one_record (i + 1) q ys) one (whole (suc (i + 1)) rest zs) f) f)
+        subst (λ (o : Outcome). o.fits ≡ false) w
+        (is_misfit s (followed (one_record (i + 1) q ys) (whole (suc (i + 1)) rest zs))
+        (was_misfit (one_record (i + 1) q ys) (whole (suc (i + 1)) rest zs) (subst (λ (o : Option ℕ). Answers n after o (one_record (i + 1) q ys)) e one)))
 
 -- All are done.
-pub turns_end : {n : ℕ} {area : List ℕ} (i : ℕ) (d : Redone) (xs : List Page) (l : List Rec) → i ≡ length l → Answers n area d (whole 1 (take i l) xs) → Answers n area d (whole 1 l xs)
-turns_end {n} {area} i d xs l e = subst (λ (z : List Rec). Answers n area d (whole 1 z xs)) (ap (λ (k : ℕ). take k l) e ∙ take-length l)
+pub turns_end : {n : ℕ} {area : List ℕ} (i count : ℕ) (xs : List Page) (l : List Rec) → i ≡ length l → Counted n area count (whole 1 (take i l) xs) → Counted n area count (whole 1 l xs)
+turns_end {n} {area} i count xs l e = subst (λ (z : List Rec). Counted n area count (whole 1 z xs)) (ap (λ (k : ℕ). take k l) e ∙ take-length l)

@@ -1,15 +1,14 @@
 -- What redo comes to: whether every change that it reaches fits, how many page changes it applies, and the pages after it. Of a page, of a
 -- record at its places, of a log.
-use Rattle.std.specs.Prelude.{◌≡◌, refl, ℕ, ◌+◌, Bool, true, false, ◌&&◌, List, []}
+use Rattle.std.specs.Prelude.{◌≡◌, refl, ℕ, ◌+◌, Bool, true, false, ◌&&◌, List, [], Option, MatchOption}
 use Rattle.std.proofs.Common.{ap, ap₂, sym, ◌∙◌, subst, arith, zero-add}
-use Rattle.def_base.specs.Tests.{pick, clash}
+use Rattle.def_base.specs.Tests.{pick}
 use Rattle.def_layout.specs.Pages.{Page, at}
 use Rattle.def_layout.specs.Records.{Rec}
-use Rattle.def_model.specs.Change.{shape}
+use Rattle.def_model.specs.Change.{Shape, shape}
 use Rattle.def_model.specs.Fit.{fits}
 use Rattle.def_model.specs.Redo.{when_named, places, is_lower, redo_page, redo_places, replay, count_places, redo_count, fits_places, redo_fits}
 use Rattle.record_pages.specs.Pages.{Pages}
-use Rattle.record_redo.specs.declared.Redone.{Redone}
 
 pub record Outcome : Type 0 where
   pub fits : Bool
@@ -31,15 +30,15 @@ one_record k r xs = in_places k r (places r) xs
 abbrev pub whole : ℕ → List Rec → List Page → Outcome
 whole k l xs = record { fits = redo_fits k l xs; count = redo_count k l xs; pages = replay k l xs }
 
--- The program's answer says so; of a change that does not fit it says no more than that.
-pub record Answers (n : ℕ) (area : List ℕ) (d : Redone) (o : Outcome) : Type 0 where
-  pub fits : d.ok ≡ o.fits
-  pub count : d.ok ≡ true → d.count ≡ o.count
-  pub pages : d.ok ≡ true → Pages n area o.pages []
+-- The program's count of the changes that it applied says so, and every change fits.
+pub record Counted (n : ℕ) (area : List ℕ) (count : ℕ) (o : Outcome) : Type 0 where
+  pub fits : o.fits ≡ true
+  pub counts : count ≡ o.count
+  pub pages : Pages n area o.pages []
 
--- Where a change does not fit.
-pub misfit_answers : {n : ℕ} {area : List ℕ} (d : Redone) (o : Outcome) → d.ok ≡ false → o.fits ≡ false → Answers n area d o
-misfit_answers d o t f = record { fits = t ∙ sym f; count = λ w. clash (sym w ∙ t); pages = λ w. clash (sym w ∙ t) }
+-- The program's answer: a count, or none where a change does not fit.
+abbrev pub Answers : ℕ → List ℕ → Option ℕ → Outcome → Type 0
+Answers n area d o = MatchOption d (o.fits ≡ false) (λ count. Counted n area count o)
 
 -- ---- one after the other
 
@@ -71,33 +70,21 @@ followed_nothing a =
 pub nothing_followed : (xs : List Page) (a : Outcome) → followed (nothing xs) a ≡ a
 nothing_followed xs a = ap (λ (n : ℕ). record { fits = a.fits; count = n; pages = a.pages }) (zero-add a.count)
 
--- The program's answer to that.
-pub none_answers : {n : ℕ} {area : List ℕ} (xs : List Page) → Pages n area xs [] → Answers n area (record { ok = true; count = 0 }) (nothing xs)
-none_answers xs h = record { fits = refl; count = λ w. refl; pages = λ w. h }
+-- The program's count of that.
+pub none_count : {n : ℕ} {area : List ℕ} (xs : List Page) → Pages n area xs [] → Counted n area 0 (nothing xs)
+none_count xs h = record { fits = refl; counts = refl; pages = h }
 
 -- ---- the program's answer after what was done so far
 
-module _ {n : ℕ} {area : List ℕ} (d : Redone) (o : Outcome) (h : Answers n area d o) where
-  pub was_misfit : {area' : List ℕ} (a : Outcome) → d.ok ≡ false → Answers n area' d (followed o a)
-  was_misfit a t = misfit_answers d (followed o a) t (ap (λ (f : Bool). f && a.fits) (sym h.fits ∙ t))
+pub was_misfit : (o a : Outcome) → o.fits ≡ false → (followed o a).fits ≡ false
+was_misfit o a e = ap (λ (f : Bool). f && a.fits) e
 
-  pub nothing_answers : Answers n area d (followed o (nothing o.pages))
-  nothing_answers = subst (Answers n area d) (sym (followed_nothing o)) h
+module _ {n : ℕ} {area : List ℕ} {i : ℕ} {o : Outcome} (h : Counted n area i o) where
+  pub is_misfit : (a : Outcome) → a.fits ≡ false → (followed o a).fits ≡ false
+  is_misfit a e = ap₂ (λ (f g : Bool). f && g) h.fits e
 
-  module _ (t : d.ok ≡ true) {area' : List ℕ} (e : Redone) (a : Outcome) (k : Answers n area' e a) where
-    both_fit : (f : Bool) → e.ok ≡ f → o.fits && a.fits ≡ f
-    both_fit f u = ap₂ (λ (v w : Bool). v && w) (sym h.fits ∙ t) (sym k.fits ∙ u)
-
-    pub is_misfit : e.ok ≡ false → Answers n area' e (followed o a)
-    is_misfit u = misfit_answers e (followed o a) u (both_fit false u)
-
-    pub both_answer : e.ok ≡ true → Answers n area' (record { ok = true; count = d.count + e.count }) (followed o a)
-    both_answer u =
-        record {
-          fits = sym (both_fit true u);
-          count = λ w. ap₂ (λ (i j : ℕ). i + j) (h.count t) (k.count u);
-          pages = λ w. k.pages u;
-        }
+  pub both_count : {area' : List ℕ} {j : ℕ} {a : Outcome} → Counted n area' j a → Counted n area' (i + j) (followed o a)
+  both_count k = record { fits = ap₂ (λ (f g : Bool). f && g) h.fits k.fits; counts = ap₂ (λ (x y : ℕ). x + y) h.counts k.counts; pages = k.pages }
 
 -- ---- a record's four parts
 
@@ -119,21 +106,58 @@ next_part : (b : Bool) (k p : ℕ) (r : Rec) (ps : List ℕ) (o : Outcome)
 next_part b k p r ps o =
     ap (followed o) (part_first b k p r ps o.pages) ∙ followed_assoc o (part b k r p o.pages) (in_places k r ps (part b k r p o.pages).pages)
 
-pub four_parts : (k : ℕ) (r : Rec) (a b c m : Bool) (xs : List Page) → a ≡ (shape r.kind).a → b ≡ (shape r.kind).b → c ≡ (shape r.kind).c → m ≡ (shape r.kind).m
-    → with_part m k r 0 (with_part c k r r.pageC (with_part b k r r.pageB (with_part a k r r.pageA (nothing xs)))) ≡ one_record k r xs
-unfolding places redo_places count_places fits_places
-four_parts k r a b c m xs ea eb ec em =
-    let p4 = when_named m 0 [] in
-    let p3 = when_named c r.pageC p4 in
-    let p2 = when_named b r.pageB p3 in
-    let o1 : Outcome = with_part a k r r.pageA (nothing xs) in
-    let o2 : Outcome = with_part b k r r.pageB o1 in
-    let o3 : Outcome = with_part c k r r.pageC o2 in
-    let o4 : Outcome = with_part m k r 0 o3 in
-    sym (rw (← ea, ← eb, ← ec, ← em)
-    (sym (nothing_followed xs (in_places k r (when_named a r.pageA p2) xs))
-    ∙ next_part a k r.pageA r p2 (nothing xs)
-    ∙ next_part b k r.pageB r p3 o1
-    ∙ next_part c k r.pageC r p4 o2
-    ∙ next_part m k 0 r [] o3
-    ∙ followed_nothing o4))
+-- The four parts in order, by which of them the record's kind has.
+module _ (k : ℕ) (r : Rec) (s : Shape) (xs : List Page) (e : s ≡ shape r.kind) where
+  abbrev with_a : Outcome
+  with_a = part s.a k r r.pageA xs
+
+  abbrev with_b : Outcome
+  with_b = with_part s.b k r r.pageB with_a
+
+  abbrev with_c : Outcome
+  with_c = with_part s.c k r r.pageC with_b
+
+  abbrev with_map : Outcome
+  with_map = with_part s.m k r 0 with_c
+
+  four_parts : with_map ≡ one_record k r xs
+  unfolding places redo_places count_places fits_places
+  four_parts =
+      let p4 = when_named s.m 0 [] in
+      let p3 = when_named s.c r.pageC p4 in
+      let p2 = when_named s.b r.pageB p3 in
+      sym (rw (← e)
+      (part_first s.a k r.pageA r p2 xs
+      ∙ next_part s.b k r.pageB r p3 with_a
+      ∙ next_part s.c k r.pageC r p4 with_b
+      ∙ next_part s.m k 0 r [] with_c
+      ∙ followed_nothing with_map))
+
+  pub all_fit : {n : ℕ} {area : List ℕ} {i : ℕ} → Counted n area i with_map → Counted n area i (one_record k r xs)
+  all_fit {n} {area} {i} h = subst (Counted n area i) four_parts h
+
+  whole_misfit : with_map.fits ≡ false → (one_record k r xs).fits ≡ false
+  whole_misfit = subst (λ (o : Outcome). o.fits ≡ false) four_parts
+
+  -- What the four come to where one of them does not fit.
+  after_a : with_a.fits ≡ false → with_b.fits ≡ false
+  after_a f = was_misfit with_a (part s.b k r r.pageB with_a.pages) f
+
+  after_b : with_b.fits ≡ false → with_c.fits ≡ false
+  after_b f = was_misfit with_b (part s.c k r r.pageC with_b.pages) f
+
+  after_c : with_c.fits ≡ false → (one_record k r xs).fits ≡ false
+  after_c f = whole_misfit (was_misfit with_c (part s.m k r 0 with_c.pages) f)
+
+  pub misfit_a : with_a.fits ≡ false → (one_record k r xs).fits ≡ false
+  misfit_a f = after_c (after_b (after_a f))
+
+  module _ {n : ℕ} {area : List ℕ} {i : ℕ} where
+    pub misfit_b : Counted n area i with_a → (part s.b k r r.pageB with_a.pages).fits ≡ false → (one_record k r xs).fits ≡ false
+    misfit_b h f = after_c (after_b (is_misfit h (part s.b k r r.pageB with_a.pages) f))
+
+    pub misfit_c : Counted n area i with_b → (part s.c k r r.pageC with_b.pages).fits ≡ false → (one_record k r xs).fits ≡ false
+    misfit_c h f = after_c (is_misfit h (part s.c k r r.pageC with_b.pages) f)
+
+    pub misfit_map : Counted n area i with_c → (part s.m k r 0 with_c.pages).fits ≡ false → (one_record k r xs).fits ≡ false
+    misfit_map h f = whole_misfit (is_misfit h (part s.m k r 0 with_c.pages) f)

@@ -13,7 +13,7 @@ use Rattle.codec_page.specs.Typed.{typed}
 use Rattle.law_bytes.specs.PageBytes.{Fits}
 use Rattle.record_pages.specs.Pages.{Pages, Reads}
 use Rattle.record_pages.specs.Records.{Keeps, redo_lower, redo_higher, left_none}
-use Rattle.record_redo.specs.Outcomes.{Answers, pair, misfit_answers}
+use Rattle.record_redo.specs.Outcomes.{Counted, pair}
 
 module _ {n : ℕ} {area : List ℕ} (k p : ℕ) (r : Rec) (x : program.Page) (xs : List Page) (h : Pages n area xs []) (q : Reads x (at xs p)) where
   lsn_is : x.lsn ≡ (at xs p).lsn
@@ -26,15 +26,15 @@ module _ {n : ℕ} {area : List ℕ} (k p : ℕ) (r : Rec) (x : program.Page) (x
   fits_is : {t : Bool} → fits p r (typed x) ≡ t → fits p r (at xs p) ≡ t
   fits_is e = ap (fits p r) (sym q.is) ∙ e
 
-  pub pair_higher : k ≤ x.lsn → Answers n area (record { ok = true; count = 0 }) (pair k r p xs)
+  pub pair_higher : k ≤ x.lsn → Counted n area 0 (pair k r p xs)
   pair_higher l =
       let t : is_lower k p xs ≡ false = lt_false (at xs p).lsn k (subst (λ (i : ℕ). k ≤ i) lsn_is l) in
-      record { fits = rw t refl; count = λ w. rw t refl; pages = λ w. subst (Pages n area (redo_page k r p xs)) (left_none k p xs) (redo_higher k p r x xs [] h q l) }
+      record { fits = rw t refl; counts = rw t refl; pages = subst (Pages n area (redo_page k r p xs)) (left_none k p xs) (redo_higher k p r x xs [] h q l) }
 
-  pub pair_misfit : x.lsn < k → fits p r (typed x) ≡ false → Answers n area (record { ok = false; count = 0 }) (pair k r p xs)
-  pair_misfit l e = misfit_answers (record { ok = false; count = 0 }) (pair k r p xs) refl (rw (lower_is l) (fits_is e))
+  pub pair_misfit : x.lsn < k → fits p r (typed x) ≡ false → (pair k r p xs).fits ≡ false
+  pair_misfit l e = rw (lower_is l) (fits_is e)
 
   pub pair_done : {area' : List ℕ} (y : program.Page) → x.lsn < k → fits p r (typed x) ≡ true → typed y ≡ act p k r (typed x)
-      → (Fits (typed y) → Pages n area' (set xs p (typed y)) []) → Keeps k r → Answers n area' (record { ok = true; count = 1 }) (pair k r p xs)
+      → (Fits (typed y) → Pages n area' (set xs p (typed y)) []) → Keeps k r → Counted n area' 1 (pair k r p xs)
   pair_done {area'} y l e a put keeps =
-      record { fits = rw (lower_is l) (sym (fits_is e)); count = λ w. rw (lower_is l) refl; pages = λ w. subst (Pages n area' (redo_page k r p xs)) (left_none k p xs) (redo_lower k p r x xs [] h q y l a put keeps) }
+      record { fits = rw (lower_is l) (fits_is e); counts = rw (lower_is l) refl; pages = subst (Pages n area' (redo_page k r p xs)) (left_none k p xs) (redo_lower k p r x xs [] h q y l a put keeps) }

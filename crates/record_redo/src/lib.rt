@@ -1,7 +1,7 @@
 // Restart's redo of a whole log: each record at its pages, judged page by page, with the count of the page changes that it applied.
 #![tactic(auto)]
 
-ghost use Rattle.std.specs.Prelude.{◌≡◌, true, false, List, [], ◌+◌, ◌*◌, ◌/◌, ◌%◌, ◌≤◌, ◌<◌, length};
+ghost use Rattle.std.specs.Prelude.{◌≡◌, List, [], ◌+◌, ◌*◌, ◌/◌, ◌%◌, ◌≤◌, ◌<◌, length, IfSome, IfNone, OnSome, MatchOption};
 ghost use Rattle.def_layout.specs.Sizes.{room, slot_size};
 ghost use Rattle.def_layout.specs.Pages as layout;
 ghost use Rattle.def_layout.specs.Numbers.{be32};
@@ -15,7 +15,7 @@ ghost use Rattle.record_redo.specs.Logs.{Logged, Slot};
 ghost use Rattle.record_redo.specs.Copies.{Copied};
 ghost use Rattle.record_redo.specs.Slots.{Tells};
 ghost use Rattle.record_redo.specs.AtOnce.{Done};
-ghost use Rattle.record_redo.specs.Outcomes.{Outcome, Answers, pair, part, followed, one_record, whole};
+ghost use Rattle.record_redo.specs.Outcomes.{Answers, pair, part, one_record, whole};
 
 use codec_bytes::{copy_part, get32};
 use codec_entries::read_entries;
@@ -25,13 +25,6 @@ use record_apply::{Record, apply};
 use record_fit::fits;
 use record_leaf::slide_made;
 use record_pages::{page_at, put_page};
-
-// Whether every change that was reached fits its page, and if so how many of them were applied.
-#[derive(Clone, Copy)]
-pub struct Redone {
-    pub ok: bool,
-    pub count: u32,
-}
 
 fn no_record() -> Record
     ensures { result.count ≤ room }
@@ -97,140 +90,91 @@ pub fn record_at(log: &[u8], m: usize, i: usize) -> Record
     record_in(&log[SLOT_SIZE * i..SLOT_SIZE * i + SLOT_SIZE])
 }
 
-// Record r, number k, at page p. A page whose number is lower must fit: one that does not is left as it is.
-pub fn redo_checked(pages: &mut [u8], n: usize, r: Record, k: u32, p: u32) -> Redone
+// Record r, number k, at page p: how many changes were applied, one or none. A page whose number is lower must fit: one that does not is left as it is.
+pub fn redo_checked(pages: &mut [u8], n: usize, r: Record, k: u32, p: u32) -> Option<u32>
     requires { HasPages n pages.old × (r.count ≤ room) }
-    ensures { (result.count ≤ 1) × (result.ok ≡ false → pages.new ≡ pages.old) × ((xs : List layout.Page) → Pages n pages.old xs [] → Keeps k (rec r) → Answers n pages.new result (pair k (rec r) p xs)) }
+    ensures most { IfSome result (λ count. count ≤ 1) }
+    ensures misfit { IfNone result (pages.new ≡ pages.old) }
+    ensures answer { (xs : List layout.Page) → Pages n pages.old xs [] → Keeps k (rec r) → Answers n pages.new result (pair k (rec r) p xs) }
 {
     let x = page_at(pages, n, p);
     if x.lsn >= k {
-        return Redone { ok: true, count: 0 };
+        return Some(0);
     }
     if !fits(r, p as usize, x) {
-        return Redone {
-            ok: false,
-            count: 0,
-        };
+        return None;
     }
     let y = apply(r, k, p as usize, x);
     put_page(pages, n, p, y);
-    Redone { ok: true, count: 1 }
+    Some(1)
 }
 
-// The same after what was done so far, where that fits and the record has the part.
-fn redo_part(
-    pages: &mut [u8],
-    n: usize,
-    r: Record,
-    k: u32,
-    on: bool,
-    p: u32,
-    done: Redone,
-) -> Redone
-    requires { HasPages n pages.old × (r.count ≤ room) × (done.count ≤ 3) }
-    ensures { (result.count ≤ done.count + 1) × ((o : Outcome) → Answers n pages.old done o → Keeps k (rec r) → Answers n pages.new result (followed o (part on k (rec r) p o.pages))) }
-{
-    if !done.ok {
-        return done;
-    }
-    if !on {
-        return done;
-    }
-    let d = redo_checked(pages, n, r, k, p);
-    if !d.ok {
-        return d;
-    }
-    Redone {
-        ok: true,
-        count: done.count + d.count,
-    }
-}
-
-// Record r, number k, at the pages that it changes, up to the first that does not fit: A, then B or C, then the map.
-pub fn redo_places(pages: &mut [u8], n: usize, r: Record, k: u32) -> Redone
+// The same where the record has the part.
+fn redo_part(pages: &mut [u8], n: usize, r: Record, k: u32, on: bool, p: u32) -> Option<u32>
     requires { HasPages n pages.old × (r.count ≤ room) }
-    ensures { (result.count ≤ 4) × ((xs : List layout.Page) → Pages n pages.old xs [] → Keeps k (rec r) → Answers n pages.new result (one_record k (rec r) xs)) }
+    ensures most { IfSome result (λ count. count ≤ 1) }
+    ensures answer { (xs : List layout.Page) → Pages n pages.old xs [] → Keeps k (rec r) → Answers n pages.new result (part on k (rec r) p xs) }
+{
+    if !on {
+        return Some(0);
+    }
+    redo_checked(pages, n, r, k, p)
+}
+
+// Record r, number k, at the pages that it changes: A, then B or C, then the map. None where a page does not fit: those after it stay as they were.
+pub fn redo_places(pages: &mut [u8], n: usize, r: Record, k: u32) -> Option<u32>
+    requires { HasPages n pages.old × (r.count ≤ room) }
+    ensures most { IfSome result (λ count. count ≤ 4) }
+    ensures answer { (xs : List layout.Page) → Pages n pages.old xs [] → Keeps k (rec r) → Answers n pages.new result (one_record k (rec r) xs) }
 {
     let bits = parts(r.kind);
-    let none = Redone { ok: true, count: 0 };
-    let a = redo_part(pages, n, r, k, bits / 8 % 2 == 1, r.a, none);
-    let b = redo_part(pages, n, r, k, bits / 4 % 2 == 1, r.b, a);
-    let c = redo_part(pages, n, r, k, bits / 2 % 2 == 1, r.c, b);
-    redo_part(pages, n, r, k, bits % 2 == 1, 0, c)
+    let a = redo_part(pages, n, r, k, bits / 8 % 2 == 1, r.a)?;
+    let b = redo_part(pages, n, r, k, bits / 4 % 2 == 1, r.b)?;
+    let c = redo_part(pages, n, r, k, bits / 2 % 2 == 1, r.c)?;
+    let map = redo_part(pages, n, r, k, bits % 2 == 1, 0)?;
+    Some(a + b + c + map)
 }
 
-// What was done at once: whether anything was, and how many page changes that was.
-#[derive(Clone, Copy)]
-struct AtOnce {
-    done: bool,
-    count: u32,
-}
-
-fn not_yet() -> AtOnce
-    ensures { (result.done ≡ false) × (result.count ≡ 0) }
-{
-    AtOnce {
-        done: false,
-        count: 0,
-    }
-}
-
-fn at_once(count: u32) -> AtOnce
-    ensures { (result.done ≡ true) × (result.count ≡ count) }
-{
-    AtOnce { done: true, count }
-}
-
-// An insert or delete, record number i + 1, at the bytes of its page: the page is newer, or it is one that the change starts from.
-fn redo_slide(pages: &mut [u8], n: usize, log: &[u8], m: usize, i: usize) -> AtOnce
+// An insert or delete, record number i + 1, at the bytes of its page, where the page is newer or one that the change starts from: how many changes that
+// was. Of any other slot or page nothing is done.
+fn redo_slide(pages: &mut [u8], n: usize, log: &[u8], m: usize, i: usize) -> Option<u32>
     requires { HasAreas n m pages.old log.now × (i < m) }
-    ensures { (result.count ≤ 1) × (result.done ≡ false → pages.new ≡ pages.old) × (result.done ≡ true → Done n m pages.old log.now i pages.new result.count) }
+    ensures most { IfSome result (λ count. count ≤ 1) }
+    ensures cases { MatchOption result (pages.new ≡ pages.old) (λ count. Done n m pages.old log.now i pages.new count) }
 {
     let s = &log[SLOT_SIZE * i..SLOT_SIZE * i + SLOT_SIZE];
     let kind = get32(s, slot::FRONT_AT) / slot::KIND_UNIT;
     let a = (get32(s, slot::PAGES_AT) / slot::A_UNIT) as usize;
-    if kind < 2 {
-        return not_yet();
-    }
-    if kind > 3 {
-        return not_yet();
-    }
-    if a >= n {
-        return not_yet();
+    if kind < 2 || kind > 3 || a >= n {
+        return None;
     }
     let own = (i + 1) as u32;
     let page = &pages[PAGE_SIZE * a..PAGE_SIZE * a + PAGE_SIZE];
     if get32(page, page::LSN_AT) >= own {
-        return at_once(0);
+        return Some(0);
     }
     let key = get32(s, slot::KEY_AT);
     let second = get32(s, slot::SECOND_AT);
     let b = &mut pages[PAGE_SIZE * a..PAGE_SIZE * a + PAGE_SIZE];
     if !slide_made(b, kind, own, key, second) {
-        return not_yet();
+        return None;
     }
-    at_once(1)
+    Some(1)
 }
 
 // The record in slot i, number i + 1: at once where that can be, else the long way. A begin and a commit change no page.
-fn redo_slot(pages: &mut [u8], n: usize, log: &[u8], m: usize, i: usize) -> Redone
+fn redo_slot(pages: &mut [u8], n: usize, log: &[u8], m: usize, i: usize) -> Option<u32>
     requires { HasAreas n m pages.old log.now × (i < m) }
-    ensures { (result.count ≤ 4) × Slot n m pages.old log.now i pages.new result }
+    ensures most { IfSome result (λ count. count ≤ 4) }
+    ensures answer { Slot n m pages.old log.now i pages.new result }
 {
     let s = &log[SLOT_SIZE * i..SLOT_SIZE * i + SLOT_SIZE];
     let kind = get32(s, slot::FRONT_AT) / slot::KIND_UNIT;
-    if kind == 1 {
-        return Redone { ok: true, count: 0 };
+    if kind == 1 || kind == 6 {
+        return Some(0);
     }
-    if kind == 6 {
-        return Redone { ok: true, count: 0 };
-    }
-    let x = redo_slide(pages, n, log, m, i);
-    if x.done {
-        return Redone {
-            ok: true,
-            count: x.count,
-        };
+    if let Some(count) = redo_slide(pages, n, log, m, i) {
+        return Some(count);
     }
     let r = record_at(log, m, i);
     redo_places(pages, n, r, (i + 1) as u32)
@@ -252,8 +196,9 @@ fn copy_from(to: &mut [u8], log: &[u8], m: usize, i: usize)
     copy_part(to, SLOT_SIZE * i, log, SLOT_SIZE * i, SLOT_SIZE * (m - i));
 }
 
-// The first `logged` records of a log, each at its pages, up to the first that does not fit; and the log is copied to another area, a slot as soon as
-// it is redone: its bytes are at hand then, and the copy's stores go on while the next record is looked at.
+// The first `logged` records of a log, each at its pages: how many page changes were applied, or none where a page does not fit, and then what follows
+// is left. And the log is copied to another area, a slot as soon as it is redone: its bytes are at hand then, and the copy's stores go on while the next
+// record is looked at.
 pub fn redo_log(
     pages: &mut [u8],
     to: &mut [u8],
@@ -261,21 +206,18 @@ pub fn redo_log(
     n: usize,
     m: usize,
     logged: u32,
-) -> Redone
+) -> Option<u32>
     requires { HasAreas n m pages.old log.now × HasSlots m to.old × (logged ≤ m) }
-    ensures { (result.count ≤ 4 * logged) × ((xs : List layout.Page) (l : List Rec) → Pages n pages.old xs [] → Logged m log.now l → length l ≡ logged → Answers n pages.new result (whole 1 l xs)) × (result.ok ≡ true → to.new ≡ log.now) }
+    ensures most { IfSome result (λ count. count ≤ 4 * logged) }
+    ensures answer { (xs : List layout.Page) (l : List Rec) → Pages n pages.old xs [] → Logged m log.now l → length l ≡ logged → Answers n pages.new result (whole 1 l xs) }
+    ensures copied { OnSome result (to.new ≡ log.now) }
 {
     let mut count: u32 = 0;
-    let mut i: u32 = 0;
-    while i < logged {
-        let d = redo_slot(pages, n, log, m, i as usize);
-        if !d.ok {
-            return d;
-        }
+    for i in 0..logged {
+        let applied = redo_slot(pages, n, log, m, i as usize)?;
         copy_slot(to, log, m, i as usize);
-        count = count + d.count;
-        i = i + 1;
+        count += applied;
     }
-    copy_from(to, log, m, i as usize);
-    Redone { ok: true, count }
+    copy_from(to, log, m, logged as usize);
+    Some(count)
 }

@@ -22,6 +22,6 @@ returns c =
     let s = c.seek-s in (
       (λ e. clash e),
       λ x r eb f ek ev q.
-          filed a.own a.k a.v w.result _ s.result.place a.b.now _ _ w.ensures (search rules) refl (search rules) (sym s.ensures.1 ∙ not-false _ c.if-not-s.false) s.ensures.0 s.ensures.2
+          filed a.own a.k a.v w.result _ s.result.place a.b.now _ _ w.ensures (search rules) refl (search rules) (sym s.ensures.missing ∙ not-false _ c.if-not-s.false) s.ensures.place s.ensures.within
           c.put_in.ensures c.stamp.ensures x r eb f ek ev,
     )

@@ -28,12 +28,12 @@ pub returns : goal.returns
 returns c =
     let a = c.args in
     let w = c.get32-w in
-    let s = c.seek-s in
+    let s = c.seek-i in
     let z : 20 + 8 * s.result.place ≡ 16 + 8 * s.result.place + 4 = omega arith in
     let few : s.result.place < 14 = omega (arith, c.if-i-n.false, c.if-n-gt-ROOM.false) in (
       (λ e. clash e),
       λ x r eb f ek ev q.
-          struck a.own a.k a.v w.result _ s.result.place a.b.now _ _ w.ensures c.if-w-ne1.false refl s.ensures.0 (search rules)
+          struck a.own a.k a.v w.result _ s.result.place a.b.now _ _ w.ensures c.if-w-ne1.false refl s.ensures.place (search rules)
           (key_shown a.b.now s.result.place few ∙ sym c.get32.ensures ∙ c.if-get32-k.false)
           (val_shown a.b.now s.result.place few ∙ ap (be32 a.b.now) (sym z) ∙ sym c.get32-2.ensures ∙ c.if-get32-v.false) c.if-n-gt-ROOM.false
           c.take_out.ensures c.stamp.ensures x r eb f ek ev,
