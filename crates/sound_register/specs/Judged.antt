@@ -1,6 +1,6 @@
 -- The way through the parts of soundness, in the order of the code: what each test leaves if it fails, and what is known where none does.
 use Prim.Native.Nat.{ℕ, suc, ◌*◌, ◌≤◌}
-use Rattle.std.specs.Prelude.{◌≡◌, refl, Bool, true, false, take, leb}
+use Rattle.std.specs.Prelude.{◌≡◌, refl, Bool, true, false, take, leb, Some, None}
 use Rattle.std.proofs.Math.Path.{sym, ap, subst}
 use Rattle.std.proofs.Common.{ap₂, ◌∙◌, subst₂, arith}
 use mathlib.Core.List.{List, [], map}
@@ -44,7 +44,7 @@ use Rattle.sound_register.specs.Logs.{log_shown, area_is, area_fits, area_holds_
 use Rattle.law_bytes.specs.DeskSame.{desk_same}
 use Rattle.sound_register.specs.Parts.{parts_of, work_read, lefts_read, sound_is, without_layouts, without_log, without_numbers, without_tree, without_desk, without_stored, without_reserves, without_pending, all_ten}
 use Rattle.sound_register.specs.Reserved.{Reserved}
-use Rattle.sound_register.specs.Standing.{pages_in, log_in, linked_ok, Known, Stands, stands_not}
+use Rattle.sound_register.specs.Standing.{pages_in, log_in, linked_ok, Known, Stands}
 
 -- What the comparison of the two logs says, of whatever log the working area shows.
 abbrev StoredSays : ℕ → List ℕ → List ℕ → ℕ → ℕ → Bool → Type 0
@@ -56,38 +56,37 @@ module _ (n m : ℕ) (wp wl sl : List ℕ) (d : Desk) (of_pages : length wp ≡ 
 
   -- ---- a part that fails
 
-  module _ (r : Standing) (off : r.ok ≡ false) where
-    fails : parts_of n m (blocks_by true n wp) (areas.pages_of (blocks_by true n wp)) (lefts_of n wp) (slots_of m wl) (slots_of m sl) d ≡ false → Stands n m wp wl sl d r
-    fails e = stands_not n m wp wl sl d r off (λ sp. by_parts sp ∙ e)
+  fails : parts_of n m (blocks_by true n wp) (areas.pages_of (blocks_by true n wp)) (lefts_of n wp) (slots_of m wl) (slots_of m sl) d ≡ false → Stands n m wp wl sl d None
+  fails e = λ sp. by_parts sp ∙ e
 
-    pub pages_broken : {t : Bool} → t ≡ blocks_ok n 0 (blocks_by true n wp) → t ≡ false → Stands n m wp wl sl d r
-    pages_broken et e = fails (without_layouts _ _ _ _ _ _ _ _ _ _ (sym et ∙ e))
+  pub pages_broken : {t : Bool} → t ≡ blocks_ok n 0 (blocks_by true n wp) → t ≡ false → Stands n m wp wl sl d None
+  pages_broken et e = fails (without_layouts _ _ _ _ _ _ _ _ _ _ (sym et ∙ e))
 
-    pub log_broken : (j : Said) → Judgement n (slots_of m wl) j → j.ok ≡ false → Stands n m wp wl sl d r
-    log_broken j h e = fails (without_log _ _ _ _ _ _ _ _ _ _ (sym h.ok ∙ e))
+  pub log_broken : Judgement n (slots_of m wl) None → Stands n m wp wl sl d None
+  log_broken e = fails (without_log _ _ _ _ _ _ _ _ _ _ e)
 
   -- ---- after the layouts and the log
 
-  module _ (laid : blocks_ok n 0 (blocks_by true n wp) ≡ true) (j : Said) (judged : Judgement n (slots_of m wl) j) (right : j.ok ≡ true) where
+  module _ (laid : blocks_ok n 0 (blocks_by true n wp) ≡ true) (j : Said) (judged : Judgement n (slots_of m wl) (Some j)) where
     area : LaidWork n wp
     area = laid_work n wp laid of_pages
 
     both : (slots_ok n 1 (slots_of m wl) ≡ true) × (chain_ok 1 (records_of (slots_of m wl)) [] ≡ true)
-    both = and_true (slots_ok n 1 (slots_of m wl)) (chain_ok 1 (records_of (slots_of m wl)) []) (sym judged.ok ∙ right)
+    both = and_true (slots_ok n 1 (slots_of m wl)) (chain_ok 1 (records_of (slots_of m wl)) []) judged.0
 
     taken : Accepted m wl (records_of (slots_of m wl))
     taken = accepted n m wl both.0 both.1
 
     log_size : j.logged ≡ length (records_of (slots_of m wl))
     unfolding desk_of
-    log_size = ap (λ (x : Desk). x.logged) (judged.desk right 0)
+    log_size = ap (λ (x : Desk). x.logged) (judged.1.desk 0)
 
-    said : desk_with j.rows j.logged d.stored ≡ desk_of (records_of (slots_of m wl)) d.stored
-    said = judged.desk right d.stored
+    said : desk_with j.batches.rows j.logged d.stored ≡ desk_of (records_of (slots_of m wl)) d.stored
+    said = judged.1.desk d.stored
 
-    rows_said : j.rows ≡ eight_rows (map row_of (open_batches (records_of (slots_of m wl))))
+    rows_said : j.batches.rows ≡ eight_rows (map row_of (open_batches (records_of (slots_of m wl))))
     unfolding desk_of
-    rows_said = ap (λ (x : Desk). x.rows) (judged.desk right 0)
+    rows_said = ap (λ (x : Desk). x.rows) (judged.1.desk 0)
 
     -- The tests in the definitions' words.
     numbers_are : {t : Bool} → t ≡ numbers_ok j.logged (pages_of n wp) → numbers_ok (length (records_of (slots_of m wl))) (areas.pages_of (blocks_by true n wp)) ≡ t
@@ -96,28 +95,28 @@ module _ (n m : ℕ) (wp wl sl : List ℕ) (d : Desk) (of_pages : length wp ≡ 
     tree_is : {t : Bool} → t ≡ linked_ok (pages_of n wp) (lefts_of n wp) → linked_ok (areas.pages_of (blocks_by true n wp)) (lefts_of n wp) ≡ t
     tree_is et = ap (λ (xs : List Page). linked_ok xs (lefts_of n wp)) area.shown ∙ sym et
 
-    desk_as : {t : Bool} → t ≡ same_desk d (desk_with j.rows j.logged d.stored) → same_desk d (desk_of (records_of (slots_of m wl)) d.stored) ≡ t
+    desk_as : {t : Bool} → t ≡ same_desk d (desk_with j.batches.rows j.logged d.stored) → same_desk d (desk_of (records_of (slots_of m wl)) d.stored) ≡ t
     desk_as et = ap (same_desk d) (sym said) ∙ sym et
 
     stored_as : {t : Bool} → StoredSays m wl sl j.logged d.stored t → stored_is m (slots_of m sl) (records_of (slots_of m wl)) d.stored ≡ t
     stored_as et = sym (et (records_of (slots_of m wl)) (sym log_size) (area_is n m wl both.0))
 
-    module _ (r : Standing) (off : r.ok ≡ false) {t : Bool} (e : t ≡ false) where
-      pub desk_other : t ≡ same_desk d (desk_with j.rows j.logged d.stored) → Stands n m wp wl sl d r
-      desk_other et = fails r off (without_desk _ _ _ _ _ _ _ _ _ _ (desk_as et ∙ e))
+    module _ {t : Bool} (e : t ≡ false) where
+      pub desk_other : t ≡ same_desk d (desk_with j.batches.rows j.logged d.stored) → Stands n m wp wl sl d None
+      desk_other et = fails (without_desk _ _ _ _ _ _ _ _ _ _ (desk_as et ∙ e))
 
-      pub numbers_high : t ≡ numbers_ok j.logged (pages_of n wp) → Stands n m wp wl sl d r
-      numbers_high et = fails r off (without_numbers _ _ _ _ _ _ _ _ _ _ (numbers_are et ∙ e))
+      pub numbers_high : t ≡ numbers_ok j.logged (pages_of n wp) → Stands n m wp wl sl d None
+      numbers_high et = fails (without_numbers _ _ _ _ _ _ _ _ _ _ (numbers_are et ∙ e))
 
-      pub stored_other : StoredSays m wl sl j.logged d.stored t → Stands n m wp wl sl d r
-      stored_other et = fails r off (without_stored _ _ _ _ _ _ _ _ _ _ (stored_as et ∙ e))
+      pub stored_other : StoredSays m wl sl j.logged d.stored t → Stands n m wp wl sl d None
+      stored_other et = fails (without_stored _ _ _ _ _ _ _ _ _ _ (stored_as et ∙ e))
 
-      pub tree_broken : t ≡ linked_ok (pages_of n wp) (lefts_of n wp) → Stands n m wp wl sl d r
-      tree_broken et = fails r off (without_tree _ _ _ _ _ _ _ _ _ _ (tree_is et ∙ e))
+      pub tree_broken : t ≡ linked_ok (pages_of n wp) (lefts_of n wp) → Stands n m wp wl sl d None
+      tree_broken et = fails (without_tree _ _ _ _ _ _ _ _ _ _ (tree_is et ∙ e))
 
     -- ---- after the desk, which is what the log says
 
-    module _ {u : Bool} (eu : u ≡ same_desk d (desk_with j.rows j.logged d.stored)) (same : u ≡ true) where
+    module _ {u : Bool} (eu : u ≡ same_desk d (desk_with j.batches.rows j.logged d.stored)) (same : u ≡ true) where
       desk_is : d ≡ desk_of (records_of (slots_of m wl)) d.stored
       desk_is = desk_same d (desk_of (records_of (slots_of m wl)) d.stored) (desk_as eu ∙ same)
 
@@ -150,16 +149,16 @@ module _ (n m : ℕ) (wp wl sl : List ℕ) (d : Desk) (of_pages : length wp ≡ 
           ∙ reserves_are m (pages_of n wp) (records_of (slots_of m wl)) (open_batches (records_of (slots_of m wl)))
           ∙ sym (et ∙ rw (logged_is, pending_is, used_is))
 
-      rule_is : {t : Bool} → RuleIs (pages_of n wp) m wl j.rows t → pending_ok (areas.pages_of (blocks_by true n wp)) (open_batches (records_of (slots_of m wl))) ≡ t
+      rule_is : {t : Bool} → RuleIs (pages_of n wp) m wl j.batches.rows t → pending_ok (areas.pages_of (blocks_by true n wp)) (open_batches (records_of (slots_of m wl))) ≡ t
       rule_is et =
           ap (λ (xs : List Page). pending_ok xs (open_batches (records_of (slots_of m wl)))) area.shown
           ∙ sym (et (records_of (slots_of m wl)) (open_batches (records_of (slots_of m wl))) (record { reads = taken.reads; holds = taken.holds; rows = rows_said }))
 
-      pub reserves_short : (ms : List Bool) (s : Standing) → Reserved m (pages_of n wp) d ms s → s.ok ≡ false → Stands n m wp wl sl d s
-      reserves_short ms s h e = fails s e (without_reserves _ _ _ _ _ _ _ _ _ _ (reserves_as h.ok ∙ e))
+      pub reserves_short : (ms : List Bool) → Reserved m (pages_of n wp) d ms None → Stands n m wp wl sl d None
+      reserves_short ms e = fails (without_reserves _ _ _ _ _ _ _ _ _ _ (reserves_as (sym e)))
 
-      pub rule_broken : (r : Standing) {t : Bool} → r.ok ≡ false → RuleIs (pages_of n wp) m wl j.rows t → t ≡ false → Stands n m wp wl sl d r
-      rule_broken r off et e = fails r off (without_pending _ _ _ _ _ _ _ _ _ _ (rule_is et ∙ e))
+      pub rule_broken : {t : Bool} → RuleIs (pages_of n wp) m wl j.batches.rows t → t ≡ false → Stands n m wp wl sl d None
+      rule_broken et e = fails (without_pending _ _ _ _ _ _ _ _ _ _ (rule_is et ∙ e))
 
       -- ---- all parts
 
@@ -186,7 +185,7 @@ module _ (n m : ℕ) (wp wl sl : List ℕ) (d : Desk) (of_pages : length wp ≡ 
             stop = refl;
           }
 
-      module _ (w : Bytes wl) (s : Standing) (held : Reserved m (pages_of n wp) d j.marked s) (on : s.ok ≡ true) where
+      module _ (w : Bytes wl) (s : Standing) (held : Reserved m (pages_of n wp) d j.batches.marked (Some s)) where
         stored_both : stored_is m (slots_of m sl) (records_of (slots_of m wl)) d.stored ≡ true
             → (d.stored ≤ length (records_of (slots_of m wl))) × HoldsLog sl (take d.stored (records_of (slots_of m wl)))
         stored_both e =
@@ -210,24 +209,22 @@ module _ (n m : ℕ) (wp wl sl : List ℕ) (d : Desk) (of_pages : length wp ≡ 
               rows = rows_are;
               logged = logged_is;
               stored = k.0;
-              marked = held.marked on ∙ judged.marked right;
-              pending = held.pending on ∙ pending_is;
-              free = held.free on;
+              marked = held.1.marked ∙ judged.1.marked;
+              pending = held.1.pending ∙ pending_is;
+              free = held.1.free;
             }
 
         pub all_kept : {numbers stored tree rule : Bool}
             → numbers ≡ numbers_ok j.logged (pages_of n wp) → numbers ≡ true
             → StoredSays m wl sl j.logged d.stored stored → stored ≡ true
             → tree ≡ linked_ok (pages_of n wp) (lefts_of n wp) → tree ≡ true
-            → RuleIs (pages_of n wp) m wl j.rows rule → rule ≡ true
-            → Stands n m wp wl sl d s
+            → RuleIs (pages_of n wp) m wl j.batches.rows rule → rule ≡ true
+            → Stands n m wp wl sl d (Some s)
         all_kept en n! es s! et t! er r! =
             let Stored_on = stored_as es ∙ s! in
-            let both_on = and_true (tree_ok (areas.pages_of (blocks_by true n wp))) (lefts_ok (areas.pages_of (blocks_by true n wp)) (lefts_of n wp)) (tree_is et ∙ t!) in
-            record {
-              ok = λ sp.
-                  on
-                  ∙ sym (by_parts sp
-                  ∙ all_ten _ _ _ _ _ _ _ _ _ _ laid both.0 both.1 (numbers_are en ∙ n!) both_on.0 (rule_is er ∙ r!) (desk_as eu ∙ same) Stored_on (reserves_as held.ok ∙ on) both_on.1);
-              known = λ _. subst₂ (λ (xs : List Page) (l : List Rec). Known n m wp wl sl d s xs l) pages_shown records_shown (known_so Stored_on);
-            }
+            let both_on = and_true (tree_ok (areas.pages_of (blocks_by true n wp))) (lefts_ok (areas.pages_of (blocks_by true n wp)) (lefts_of n wp)) (tree_is et ∙ t!) in (
+              λ sp.
+                  by_parts sp
+                  ∙ all_ten _ _ _ _ _ _ _ _ _ _ laid both.0 both.1 (numbers_are en ∙ n!) both_on.0 (rule_is er ∙ r!) (desk_as eu ∙ same) Stored_on (reserves_as (sym held.0)) both_on.1,
+              subst₂ (λ (xs : List Page) (l : List Rec). Known n m wp wl sl d s xs l) pages_shown records_shown (known_so Stored_on),
+            )

@@ -1,7 +1,6 @@
 -- WHERE A REGISTER STANDS: whether it is sound, and what a call knows of one that is.
-use Rattle.std.specs.Prelude.{ℕ, ◌≤◌, ◌≡◌, Bool, true, false, ◌&&◌, List, map, length, take}
-use Rattle.std.proofs.Common.{sym, ◌∙◌, arith}
-use Rattle.def_base.specs.Tests.{clash}
+use Rattle.std.specs.Prelude.{ℕ, ◌≤◌, ◌≡◌, Bool, true, false, ◌&&◌, List, map, length, take, Option, MatchOption}
+use Rattle.std.proofs.Common.{arith}
 use Rattle.def_layout.specs.declared.Desk.{Desk}
 use Rattle.def_layout.specs.Desks.{eight_rows}
 use Rattle.def_layout.specs.Pages.{Page}
@@ -59,12 +58,13 @@ pub record Known (n m : ℕ) (wp wl sl : List ℕ) (d : Desk) (r : Standing) (xs
   pub pending : r.pending ≡ pending_count (open_batches l)
   pub free : r.free ≡ free_pages xs
 
-pub record Stands (n m : ℕ) (wp wl sl : List ℕ) (d : Desk) (r : Standing) : Type 0 where
-  pub ok : (sp : List ℕ) → r.ok ≡ sound (read_areas (lent wp sp wl sl)) d
-  pub known : r.ok ≡ true → Known n m wp wl sl d r (pages_in wp) (log_in wl)
+-- Whether areas of this working pages, logs and desk are sound, whatever their stable pages.
+abbrev pub SoundIs : List ℕ → List ℕ → List ℕ → Desk → Bool → Type 0
+SoundIs wp wl sl d t = (sp : List ℕ) → sound (read_areas (lent wp sp wl sl)) d ≡ t
 
-pub stands_not : (n m : ℕ) (wp wl sl : List ℕ) (d : Desk) (r : Standing) → r.ok ≡ false → ((sp : List ℕ) → sound (read_areas (lent wp sp wl sl)) d ≡ false) → Stands n m wp wl sl d r
-stands_not n m wp wl sl d r f un = record { ok = λ sp. f ∙ sym (un sp); known = λ z. clash (sym z ∙ f) }
+-- None just where the register is not sound; else what is known of it.
+abbrev pub Stands : ℕ → ℕ → List ℕ → List ℕ → List ℕ → Desk → Option Standing → Type 0
+Stands n m wp wl sl d r = MatchOption r (SoundIs wp wl sl d false) (λ s. SoundIs wp wl sl d true × Known n m wp wl sl d s (pages_in wp) (log_in wl))
 
 -- ---- what calls ask of it
 

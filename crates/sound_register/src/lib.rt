@@ -1,7 +1,7 @@
 // "Sound means ..", judged on the lent bytes, and what a call then knows of the register.
 #![tactic(auto)]
 
-ghost use Rattle.std.specs.Prelude.{◌≡◌, false, ◌≤◌};
+ghost use Rattle.std.specs.Prelude.{◌≡◌, ◌≤◌};
 ghost use Rattle.def_layout.specs.Sizes.{most_slots};
 ghost use Rattle.law_bytes.specs.AreaSizes.{HasPages, HasSlots, HasAreas};
 ghost use Rattle.law_bytes.specs.DeskRows.{LowRows};
@@ -22,26 +22,13 @@ use tree_links::lefts_ok;
 // many pages are free.
 #[derive(Clone, Copy)]
 pub struct Standing {
-    pub ok: bool,
     pub marked: [bool; 8],
     pub pending: u32,
     pub free: usize,
 }
 
-fn unsound() -> Standing
-    ensures { result.ok ≡ false }
-{
-    let marked = [false; 8];
-    Standing {
-        ok: false,
-        marked,
-        pending: 0,
-        free: 0,
-    }
-}
-
 // The reserves of a register of n pages and m slots, by what its desk counts.
-fn reserved(wp: &[u8], n: usize, m: usize, d: Desk, marked: [bool; 8]) -> Standing
+fn reserved(wp: &[u8], n: usize, m: usize, d: Desk, marked: [bool; 8]) -> Option<Standing>
     requires { HasPages n wp.now × (d.logged ≤ most_slots) × LowRows d.rows × (total d.rows ≤ most_slots) }
     ensures { Reserved m (pages_of n wp.now) d marked result }
 {
@@ -50,14 +37,13 @@ fn reserved(wp: &[u8], n: usize, m: usize, d: Desk, marked: [bool; 8]) -> Standi
     let free = free_pages(wp, n);
     let batches = used_rows(rows);
     if !reserves_ok(m, free, d.logged as usize, pending as usize, batches) {
-        return unsound();
+        return None;
     }
-    Standing {
-        ok: true,
+    Some(Standing {
         marked,
         pending,
         free,
-    }
+    })
 }
 
 // The rules of the tree, and that left and right links agree.
@@ -71,39 +57,32 @@ fn linked_ok(wp: &[u8], n: usize) -> bool
     lefts_ok(wp, n)
 }
 
-// Whether a register of n pages and m slots and its desk are sound, and what is then known. The reserves stand before the pending rule: they bound
+// What is known of a register of n pages and m slots and its desk, if they are sound. The reserves stand before the pending rule: they bound
 // the lines that it compares.
-pub fn standing_of(wp: &[u8], wl: &[u8], sl: &[u8], n: usize, m: usize, d: Desk) -> Standing
+pub fn standing_of(wp: &[u8], wl: &[u8], sl: &[u8], n: usize, m: usize, d: Desk) -> Option<Standing>
     requires { HasAreas n m wp.now wl.now × HasSlots m sl.now }
     ensures { Stands n m wp.now wl.now sl.now d result }
 {
     if !layouts_ok(wp, n, true) {
-        return unsound();
+        return None;
     }
-    let j = judge_log(wl, m, n);
-    if !j.ok {
-        return unsound();
-    }
-    let rows = j.rows;
+    let j = judge_log(wl, m, n)?;
+    let rows = j.batches.rows;
     if !desk_is(d, rows, j.logged) {
-        return unsound();
+        return None;
     }
     if !numbers_ok(wp, n, j.logged) {
-        return unsound();
+        return None;
     }
     if !stored_ok(wl, sl, m, j.logged, d.stored) {
-        return unsound();
+        return None;
     }
     if !linked_ok(wp, n) {
-        return unsound();
+        return None;
     }
-    let marked = j.marked;
-    let s = reserved(wp, n, m, d, marked);
-    if !s.ok {
-        return s;
-    }
+    let s = reserved(wp, n, m, d, j.batches.marked)?;
     if !pending_ok(wp, n, wl, m, rows) {
-        return unsound();
+        return None;
     }
-    s
+    Some(s)
 }

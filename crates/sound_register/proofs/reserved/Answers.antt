@@ -8,7 +8,7 @@ use Rattle.sound_register.proofs.reserved.Goals as goal
 pub returns-then-not-reserves_ok : goal.returns-then-not-reserves_ok
 returns-then-not-reserves_ok c =
     let a = c.args in
-    reserves_broken a.m (pages_of a.n a.wp.now) a.d a.marked _ _ _ _ _ c.reserves_ok.ensures refl c.free_pages-free.ensures.0 c.pending_total-pending.ensures c.used_rows-batches.ensures.0 _ (not-true _ c.if-not-reserves_ok.true-raw) c.unsound.ensures
+    reserves_broken a.m (pages_of a.n a.wp.now) a.d a.marked _ _ _ _ _ c.reserves_ok.ensures refl c.free_pages-free.ensures.0 c.pending_total-pending.ensures c.used_rows-batches.ensures.0 (not-true _ c.if-not-reserves_ok.true-raw)
 
 pub returns : goal.returns
 returns c =
