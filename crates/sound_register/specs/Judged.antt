@@ -171,7 +171,7 @@ module _ (n m : ℕ) (wp wl sl : List ℕ) (d : Desk) (of_pages : length wp ≡ 
       records_shown : records_of (slots_of m wl) ≡ log_in wl
       records_shown = ap records_of (sym (log_shown m wl of_log))
 
-      run_shown : (sp : List ℕ) → Shows n m wp wl (record { logged = d.logged; stop = 0 }) (run_of (read_areas (lent wp sp wl sl)))
+      run_shown : (sp : List ℕ) → Shows n m wp wl (record { logged = d.logged; stop = None }) (run_of (read_areas (lent wp sp wl sl)))
       unfolding run_of read_areas
       run_shown sp =
           let k : length (log_in wl) ≡ d.logged = ap length (sym records_shown) ∙ sym logged_is in

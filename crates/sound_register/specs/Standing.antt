@@ -1,5 +1,5 @@
 -- WHERE A REGISTER STANDS: whether it is sound, and what a call knows of one that is.
-use Rattle.std.specs.Prelude.{ℕ, ◌≤◌, ◌≡◌, Bool, true, false, ◌&&◌, List, map, length, take, Option, MatchOption}
+use Rattle.std.specs.Prelude.{None, ℕ, ◌≤◌, ◌≡◌, Bool, true, false, ◌&&◌, List, map, length, take, Option, MatchOption}
 use Rattle.std.proofs.Common.{arith}
 use Rattle.def_layout.specs.declared.Desk.{Desk}
 use Rattle.def_layout.specs.Desks.{eight_rows}
@@ -44,7 +44,7 @@ pub record Known (n m : ℕ) (wp wl sl : List ℕ) (d : Desk) (r : Standing) (xs
   pub log : HoldsLog wl l
   pub stable : HoldsLog sl (take d.stored l)
   pub fits : AllFit 1 l
-  pub shows : (sp : List ℕ) → Shows n m wp wl (record { logged = d.logged; stop = 0 }) (run_of (read_areas (lent wp sp wl sl)))
+  pub shows : (sp : List ℕ) → Shows n m wp wl (record { logged = d.logged; stop = None }) (run_of (read_areas (lent wp sp wl sl)))
   -- The log's lines and batches.
   pub reads : Reads m wl l
   pub holds : Holds l (open_batches l)
