@@ -17,7 +17,7 @@ use Rattle.call_reply.specs.declared.Reply.{Reply}
 use Rattle.call_reply.specs.Replies.{Replies, Links}
 use Rattle.log_chain.specs.Families.{rows_used}
 use Rattle.sound_register.specs.Standing.{log_in}
-use Rattle.call_restart.specs.Image.{image, Refuses, Image}
+use Rattle.call_restart.specs.Image.{Refuses, Image}
 use Rattle.call_restart.specs.Redoing.{Ready}
 use Rattle.call_restart.specs.Settled.{SettleSays, settled_shows, settled_longer, none_refuse}
 use Rattle.call_restart.specs.Answering.{restart_refused, restart_done}
