@@ -34,20 +34,13 @@ pub fn commit_in(
     ensures { (n : ℕ) (wp sp : List ℕ) → Given n m wp sp wl.old sl.old d st
         → Replies (calls.commit b) (lent wp sp wl.old sl.old) d budget result (lent wp sp wl.new sl.new) }
 {
-    let marked = st.marked;
-    let i = live_row(d, marked, b);
-    if i == 8 {
+    let Some(i) = live_row(d, st.marked, b) else {
         return refused(Refusal::NoBatch, d);
-    }
-    let t = Run {
-        logged: d.logged,
-        stop: 0,
     };
-    let last = d.rows[i].last;
-    let u = note(wl, m, t, 6, b, last);
+    let t = Run::at(d.logged);
+    let u = note(wl, m, t, 6, b, d.rows[i].last);
     store_slots(sl, wl, d.stored as usize, u.logged as usize, budget);
-    let rows = d.rows;
-    let desk = d.with_rows(closed(rows, i));
+    let desk = d.with_rows(closed(d.rows, i));
     Reply {
         answer: Answer::Done,
         desk: desk.with_logged(u.logged).with_stored(u.logged),
@@ -68,20 +61,13 @@ pub fn abort_in(
     ensures { (budget : ℕ) (sp sl : List ℕ) → Given n m wp.old sp wl.old sl d st
         → Replies (calls.abort b) (lent wp.old sp wl.old sl) d budget result (lent wp.new sp wl.new sl) }
 {
-    let marked = st.marked;
-    let i = live_row(d, marked, b);
-    if i == 8 {
+    let Some(i) = live_row(d, st.marked, b) else {
         return refused(Refusal::NoBatch, d);
-    }
-    let t = Run {
-        logged: d.logged,
-        stop: 0,
     };
-    let row = d.rows[i];
-    let u = abort_run(wp, wl, n, m, t, row);
+    let t = Run::at(d.logged);
+    let u = abort_run(wp, wl, n, m, t, d.rows[i]);
     relink(wp, n);
-    let rows = d.rows;
-    let desk = d.with_rows(closed(rows, i));
+    let desk = d.with_rows(closed(d.rows, i));
     Reply {
         answer: Answer::Done,
         desk: desk.with_logged(u.logged),
@@ -93,13 +79,11 @@ pub fn mark_in(d: Desk, b: u32) -> Reply
     ensures { (n m budget : ℕ) (wp sp wl sl : List ℕ) (st : Standing) → Given n m wp sp wl sl d st
         → Replies (calls.take_mark b) (lent wp sp wl sl) d budget result (lent wp sp wl sl) }
 {
-    let i = open_row(d, b);
-    if i == 8 {
+    let Some(i) = open_row(d, b) else {
         return refused(Refusal::NoBatch, d);
-    }
-    let last = d.rows[i].last;
+    };
     Reply {
-        answer: Answer::Number(last),
+        answer: Answer::Number(d.rows[i].last),
         desk: d,
     }
 }
@@ -118,25 +102,18 @@ pub fn return_in(
     ensures { (budget : ℕ) (sp sl : List ℕ) (st : Standing) → Given n m wp.old sp wl.old sl d st
         → Replies (calls.return_to b mark) (lent wp.old sp wl.old sl) d budget result (lent wp.new sp wl.new sl) }
 {
-    let i = open_row(d, b);
-    if i == 8 {
+    let Some(i) = open_row(d, b) else {
         return refused(Refusal::NoBatch, d);
-    }
+    };
     if !is_record_of(wl, m, d.logged, b, mark) {
         return refused(Refusal::NoMark, d);
     }
-    let t = Run {
-        logged: d.logged,
-        stop: 0,
-    };
-    let row = d.rows[i];
-    let x = undo_above(wp, wl, n, m, t, mark, row);
+    let t = Run::at(d.logged);
+    let x = undo_above(wp, wl, n, m, t, mark, d.rows[i]);
     relink(wp, n);
-    let left = x.row;
-    let run = x.run;
     Reply {
         answer: Answer::Done,
-        desk: d.with_row(i, left).with_logged(run.logged),
+        desk: d.with_row(i, x.row).with_logged(x.run.logged),
     }
 }
 
@@ -171,9 +148,8 @@ pub fn write_out_in(
         rest: page,
     };
     store_first(sp, sl, wp, wl, list, budget);
-    let logged = d.logged;
     Reply {
         answer: Answer::Done,
-        desk: d.with_stored(logged),
+        desk: d.with_stored(d.logged),
     }
 }

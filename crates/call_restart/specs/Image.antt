@@ -1,12 +1,12 @@
 -- THE IMAGE that a restart starts from, as bytes: how 3 and 4 refuse it, and what is known of it where they do not.
-use Rattle.std.specs.Prelude.{ℕ, ◌*◌, ◌≤◌, ◌≡◌, Bool, ◌&&◌}
+use Rattle.std.specs.Prelude.{ℕ, ◌*◌, ◌≤◌, ◌≡◌, Bool, ◌&&◌, Result, MatchResult}
 use Rattle.std.proofs.Math.Path.{refl, sym, ap, ap₂, subst}
 use Rattle.std.proofs.Common.{◌∙◌, arith}
 use Rattle.std.proofs.Math.Bool.{true, false}
 use Rattle.std.proofs.Math.Option.{some}
 use mathlib.Core.List.{List, [], map}
 use Rattle.std.proofs.Math.ListN.{length}
-use Rattle.def_base.specs.Tests.{clash, and_true, and_both}
+use Rattle.def_base.specs.Tests.{and_true, and_both}
 use Rattle.def_layout.specs.declared.Row.{Row}
 use Rattle.def_layout.specs.declared.Desk.{Desk}
 use Rattle.def_layout.specs.Desks.{eight_rows}
@@ -34,7 +34,7 @@ use Rattle.law_bytes.specs.Eights.{eight}
 use Rattle.law_bytes.specs.DeskRows.{LowRows}
 use Rattle.log_chain.specs.Shown.{marks_of}
 use Rattle.log_judge.specs.declared.Said.{Said}
-use Rattle.log_judge.specs.Judging.{Judgement}
+use Rattle.log_judge.specs.Judging.{log_right, Says}
 use Rattle.log_judge.specs.Accepted.{Accepted, accepted, accepted_low}
 use Rattle.law_areas.specs.Logs.{HoldsLog, AllFit}
 use Rattle.record_pages.specs.Pages.{Pages, bare_pages}
@@ -42,7 +42,6 @@ use Rattle.sound_parts.specs.Laid.{Laid, laid_pages}
 use Rattle.sound_register.specs.Logs.{log_shown, area_fits, area_holds_log}
 use Rattle.sound_register.specs.Parts.{pages_read}
 use Rattle.sound_register.specs.Standing.{log_in}
-use Rattle.call_restart.specs.declared.Verdict.{Verdict}
 use Rattle.call_restart.specs.Checks.{layout_first, log_first}
 
 -- The pages that stable areas show.
@@ -75,9 +74,9 @@ pub record Image (n m : ℕ) (sp sl : List ℕ) (rs : List Row) (count : ℕ) (m
   pub within : count ≤ m
   pub marked : ms ≡ eight false (marks_of (open_batches (log_in sl)))
 
-pub record Judges (n m : ℕ) (sp sl : List ℕ) (v : Verdict) : Type 0 where
-  pub refuses : v.ok ≡ false → Refuses sp sl v.why
-  pub known : v.ok ≡ true → Image n m sp sl v.rows v.logged v.marked
+-- What 3 and 4 come to: what the log says, of an image that is known by it, or a refusal.
+abbrev pub Judges : (n m : ℕ) (sp sl : List ℕ) (r : Result Said Refusal) → Type 0
+Judges n m sp sl r = MatchResult r (λ said. Image n m sp sl said.batches.rows said.logged said.batches.marked) (Refuses sp sl)
 
 module _ (n m : ℕ) (sp sl : List ℕ) (of_pages : length sp ≡ page_size * n) (of_log : length sl ≡ slot_size * m) where
   -- ---- the tests in the definitions' words
@@ -96,47 +95,41 @@ module _ (n m : ℕ) (sp sl : List ℕ) (of_pages : length sp ≡ page_size * n)
 
   -- ---- refused
 
-  module _ (v : Verdict) (off : v.ok ≡ false) where
-    refused_by : (r : Refusal) → v.why ≡ r → Refuses sp sl r → Judges n m sp sl v
-    refused_by r e h = record { refuses = λ _ w. h w ∙ ap some (sym e); known = λ z. clash (sym z ∙ off) }
+  pub pages_broken : {t : Bool} → t ≡ blocks_ok n 0 (blocks_by false n sp) → t ≡ false → Refuses sp sl Layout
+  pages_broken et e w = layout_first (over w sp sl) (layouts_are ∙ sym et ∙ e)
 
-    pub pages_broken : {t : Bool} → v.why ≡ Layout → t ≡ blocks_ok n 0 (blocks_by false n sp) → t ≡ false → Judges n m sp sl v
-    pages_broken y et e = refused_by Layout y (λ w. layout_first (over w sp sl) (layouts_are ∙ sym et ∙ e))
+  module _ (laid : blocks_ok n 0 (blocks_by false n sp) ≡ true) where
+    pub log_broken : log_right n (slots_of m sl) ≡ false → Refuses sp sl Log
+    log_broken e w =
+        log_first (over w sp sl) (layouts_are ∙ laid)
+        (log_is ∙ both (slots_ok n 1 (slots_of m sl)) (chain_ok 1 (records_of (slots_of m sl)) []) _ e)
+      where
+        both : (a b c : Bool) → a && b ≡ false → a && (b && c) ≡ false
+        both true b c e = rw e
+        both false b c e = refl
 
-    module _ (y : v.why ≡ Log) (laid : blocks_ok n 0 (blocks_by false n sp) ≡ true) (j : Said) (judged : Judgement n (slots_of m sl) j) where
-      pub log_broken : j.ok ≡ false → Judges n m sp sl v
-      log_broken e =
-          refused_by Log y
-          (λ w. log_first (over w sp sl) (layouts_are ∙ laid)
-          (log_is ∙ both (slots_ok n 1 (slots_of m sl)) (chain_ok 1 (records_of (slots_of m sl)) []) _ (sym judged.ok ∙ e)))
-        where
-          both : (a b c : Bool) → a && b ≡ false → a && (b && c) ≡ false
-          both true b c e = rw e
-          both false b c e = refl
-
-      pub numbers_high : {t : Bool} → j.ok ≡ true → t ≡ numbers_ok j.logged (pages_of n sp) → t ≡ false → Judges n m sp sl v
-      unfolding desk_of judged
-      numbers_high {t} right et e =
-          let k : j.logged ≡ length (records_of (slots_of m sl)) = ap (λ (x : Desk). x.logged) (judged.desk right 0) in
-          let u : numbers_ok (length (records_of (slots_of m sl))) (areas.pages_of (blocks_by false n sp)) ≡ false =
-          ap₂ numbers_ok (sym k) (laid_stable laid).shown ∙ sym et ∙ e in
-          refused_by Log y
-          (λ w. log_first (over w sp sl) (layouts_are ∙ laid)
-          (log_is ∙ third (slots_ok n 1 (slots_of m sl)) (chain_ok 1 (records_of (slots_of m sl)) []) _ u))
-        where
-          third : (a b c : Bool) → c ≡ false → a && (b && c) ≡ false
-          third true true c e = e
-          third true false c e = refl
-          third false b c e = refl
+    pub numbers_high : {t : Bool} (j : Said) → Says (slots_of m sl) j → t ≡ numbers_ok j.logged (pages_of n sp) → t ≡ false → Refuses sp sl Log
+    unfolding desk_of judged
+    numbers_high {t} j says et e w =
+        let k : j.logged ≡ length (records_of (slots_of m sl)) = ap (λ (x : Desk). x.logged) (says.desk 0) in
+        let u : numbers_ok (length (records_of (slots_of m sl))) (areas.pages_of (blocks_by false n sp)) ≡ false =
+        ap₂ numbers_ok (sym k) (laid_stable laid).shown ∙ sym et ∙ e in
+        log_first (over w sp sl) (layouts_are ∙ laid)
+        (log_is ∙ third (slots_ok n 1 (slots_of m sl)) (chain_ok 1 (records_of (slots_of m sl)) []) _ u)
+      where
+        third : (a b c : Bool) → c ≡ false → a && (b && c) ≡ false
+        third true true c e = e
+        third true false c e = refl
+        third false b c e = refl
 
   -- ---- known
 
-  module _ (laid : blocks_ok n 0 (blocks_by false n sp) ≡ true) (j : Said) (judged : Judgement n (slots_of m sl) j) (right : j.ok ≡ true) where
+  module _ (laid : blocks_ok n 0 (blocks_by false n sp) ≡ true) (j : Said) (right : log_right n (slots_of m sl) ≡ true) (says : Says (slots_of m sl) j) where
     area : Laid n sp
     area = laid_stable laid
 
     both : (slots_ok n 1 (slots_of m sl) ≡ true) × (chain_ok 1 (records_of (slots_of m sl)) [] ≡ true)
-    both = and_true (slots_ok n 1 (slots_of m sl)) (chain_ok 1 (records_of (slots_of m sl)) []) (sym judged.ok ∙ right)
+    both = and_true (slots_ok n 1 (slots_of m sl)) (chain_ok 1 (records_of (slots_of m sl)) []) right
 
     taken : Accepted m sl (records_of (slots_of m sl))
     taken = accepted n m sl both.0 both.1
@@ -150,11 +143,11 @@ module _ (n m : ℕ) (sp sl : List ℕ) (of_pages : length sp ≡ page_size * n)
 
     log_size : j.logged ≡ length (records_of (slots_of m sl))
     unfolding desk_of
-    log_size = ap (λ (x : Desk). x.logged) (judged.desk right 0)
+    log_size = ap (λ (x : Desk). x.logged) (says.desk 0)
 
-    rows_are : j.rows ≡ eight_rows (map row_of (open_batches (records_of (slots_of m sl))))
+    rows_are : j.batches.rows ≡ eight_rows (map row_of (open_batches (records_of (slots_of m sl))))
     unfolding desk_of
-    rows_are = ap (λ (x : Desk). x.rows) (judged.desk right 0)
+    rows_are = ap (λ (x : Desk). x.rows) (says.desk 0)
 
     -- Of the records as the judge has them.
     record Records (l : List Rec) : Type 0 where
@@ -162,9 +155,9 @@ module _ (n m : ℕ) (sp sl : List ℕ) (of_pages : length sp ≡ page_size * n)
       fits : AllFit 1 l
       reads : Reads m sl l
       holds : Holds l (open_batches l)
-      rows : j.rows ≡ eight_rows (map row_of (open_batches l))
+      rows : j.batches.rows ≡ eight_rows (map row_of (open_batches l))
       logged : j.logged ≡ length l
-      marked : j.marked ≡ eight false (marks_of (open_batches l))
+      marked : j.batches.marked ≡ eight false (marks_of (open_batches l))
 
     said : Bytes sl → Records (records_of (slots_of m sl))
     said w =
@@ -175,10 +168,10 @@ module _ (n m : ℕ) (sp sl : List ℕ) (of_pages : length sp ≡ page_size * n)
           holds = taken.holds;
           rows = rows_are;
           logged = log_size;
-          marked = judged.marked right;
+          marked = says.marked;
         }
 
-    pub image_known : {t : Bool} → Bytes sl → m ≤ 16384 → t ≡ numbers_ok j.logged (pages_of n sp) → t ≡ true → Image n m sp sl j.rows j.logged j.marked
+    pub image_known : {t : Bool} → Bytes sl → m ≤ 16384 → t ≡ numbers_ok j.logged (pages_of n sp) → t ≡ true → Image n m sp sl j.batches.rows j.logged j.batches.marked
     unfolding judged
     image_known w few et e =
         let k = subst Records records_are (said w) in
@@ -200,7 +193,3 @@ module _ (n m : ℕ) (sp sl : List ℕ) (of_pages : length sp ≡ page_size * n)
           within = omega (arith, log_size, reads_few m sl (records_of (slots_of m sl)) taken.reads);
           marked = k.marked;
         }
-
--- A verdict without refusal.
-pub image_judged : {n m : ℕ} {sp sl : List ℕ} (v : Verdict) → v.ok ≡ true → Image n m sp sl v.rows v.logged v.marked → Judges n m sp sl v
-image_judged v on h = record { refuses = λ z. clash (sym on ∙ z); known = λ _. h }

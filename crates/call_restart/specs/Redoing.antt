@@ -1,8 +1,7 @@
 -- THE IMAGE REDONE: how 5 and 6 refuse it, and what is known of the pages where they do not.
-use Rattle.std.specs.Prelude.{ℕ, ◌≡◌, refl, Bool, true, false, ◌&&◌, List, [], length}
-use Rattle.std.proofs.Common.{sym, ap, ◌∙◌, subst, subst₂}
-use Rattle.std.proofs.Math.Option.{some}
-use Rattle.def_base.specs.Tests.{clash}
+use Rattle.std.specs.Prelude.{ℕ, ◌≡◌, refl, Bool, true, false, ◌&&◌, List, [], length, Option, Some, None, Result, Err, MatchResult}
+use Rattle.std.specs.Option.{ok_or}
+use Rattle.std.proofs.Common.{sym, ap, ◌∙◌, subst}
 use Rattle.def_layout.specs.declared.Row.{Row}
 use Rattle.def_layout.specs.Pages.{Page}
 use Rattle.def_layout.specs.Records.{Rec}
@@ -16,13 +15,11 @@ use Rattle.def_model.specs.Restart.{redone_pages}
 use Rattle.law_bytes.specs.PageAreas.{pages_of}
 use Rattle.sound_pending.specs.Rule.{RuleIs}
 use Rattle.record_pages.specs.Pages.{Pages, pages_shown}
-use Rattle.record_redo.specs.declared.Redone.{Redone}
 use Rattle.record_redo.specs.Logs.{Logged}
-use Rattle.record_redo.specs.Outcomes.{Answers, whole}
+use Rattle.record_redo.specs.Outcomes.{Answers, Counted, whole}
 use Rattle.sound_register.specs.Standing.{log_in}
-use Rattle.call_restart.specs.declared.Verdict.{Verdict}
 use Rattle.call_restart.specs.Checks.{redo_first, rules_first}
-use Rattle.call_restart.specs.Image.{Refuses, stable_in, over, Image, Judges}
+use Rattle.call_restart.specs.Image.{Refuses, stable_in, over, Image}
 
 -- The pages of an image after its log is redone.
 abbrev pub redone_in : List ℕ → List ℕ → List Page
@@ -35,73 +32,59 @@ pub record Ready (n : ℕ) (sp sl after : List ℕ) (applied : ℕ) : Type 0 whe
   pub pages : Pages n after (redone_in sp sl) []
   pub count : applied ≡ redo_count 1 (log_in sl) (stable_in sp)
 
-pub record Readies (n m : ℕ) (sp sl after : List ℕ) (v : Verdict) : Type 0 where
-  pub refuses : v.ok ≡ false → Refuses sp sl v.why
-  pub known : v.ok ≡ true → Image n m sp sl v.rows v.logged v.marked
-  pub ready : v.ok ≡ true → Ready n sp sl after v.count
+-- What 5 and 6 come to, of an image that is known: how many page changes were redone, or a refusal.
+abbrev pub Redoes : (n : ℕ) (sp sl after : List ℕ) (r : Result ℕ Refusal) → Type 0
+Redoes n sp sl after r = MatchResult r (Ready n sp sl after) (Refuses sp sl)
 
 -- What the redo of a log says, of whatever pages and records the areas show.
-abbrev RedoSays : ℕ → ℕ → List ℕ → List ℕ → List ℕ → ℕ → Redone → Type 0
-RedoSays n m sp sl after logged x = (xs : List Page) (l : List Rec) → Pages n sp xs [] → Logged m sl l → length l ≡ logged → Answers n after x (whole 1 l xs)
+abbrev pub RedoSays : (n m : ℕ) (sp sl after : List ℕ) (logged : ℕ) (o : Option ℕ) → Type 0
+RedoSays n m sp sl after logged o = (xs : List Page) (l : List Rec) → Pages n sp xs [] → Logged m sl l → length l ≡ logged → Answers n after o (whole 1 l xs)
 
-module _ {n m : ℕ} {sp sl after : List ℕ} {rs : List Row} {logged : ℕ} {ms : List Bool} (x : Redone) (says : RedoSays n m sp sl after logged x) (k : Image n m sp sl rs logged ms) (r : Verdict) where
-  answers : Answers n after x (whole 1 (log_in sl) (stable_in sp))
-  answers = says (stable_in sp) (log_in sl) k.pages (record { slots = k.reads; fits = k.fits }) (sym k.logged)
+module _ {n m : ℕ} {sp sl : List ℕ} {rs : List Row} {logged : ℕ} {ms : List Bool} (k : Image n m sp sl rs logged ms) where
+  redo_known : (after : List ℕ) (o : Option ℕ) → RedoSays n m sp sl after logged o → Answers n after o (whole 1 (log_in sl) (stable_in sp))
+  redo_known after o says = says (stable_in sp) (log_in sl) k.pages (record { slots = k.reads; fits = k.fits }) (sym k.logged)
 
-  refused_by : (why : Refusal) → r.ok ≡ false → r.why ≡ why → Refuses sp sl why → Readies n m sp sl after r
-  refused_by why off e h = record { refuses = λ _ w. h w ∙ ap some (sym e); known = λ z. clash (sym z ∙ off); ready = λ z. clash (sym z ∙ off) }
+  pub redo_broken : (after : List ℕ) (o : Option ℕ) → RedoSays n m sp sl after logged o → o ≡ None → Refuses sp sl Redo
+  redo_broken after o says e w =
+      redo_first (over w sp sl) k.layouts k.log (subst (λ (v : Option ℕ). Answers n after v (whole 1 (log_in sl) (stable_in sp))) e (redo_known after o says))
 
-  pub redo_broken : x.ok ≡ false → r.ok ≡ false → r.why ≡ Redo → Readies n m sp sl after r
-  redo_broken e off y = refused_by Redo off y (λ w. redo_first (over w sp sl) k.layouts k.log (sym answers.fits ∙ e))
+  pub redo_whole : (after : List ℕ) (o : Option ℕ) (count : ℕ) → RedoSays n m sp sl after logged o → o ≡ Some count → Counted n after count (whole 1 (log_in sl) (stable_in sp))
+  redo_whole after o count says e = subst (λ (v : Option ℕ). Answers n after v (whole 1 (log_in sl) (stable_in sp))) e (redo_known after o says)
 
-  module _ (fit : x.ok ≡ true) where
-    shown : pages_of n after ≡ redone_in sp sl
-    shown = pages_shown (answers.pages fit)
-
-    rules_broken : tree_ok (redone_in sp sl) && pending_ok (redone_in sp sl) (open_batches (log_in sl)) ≡ false → r.ok ≡ false → r.why ≡ Rules → Readies n m sp sl after r
+  module _ {after : List ℕ} {count : ℕ} (c : Counted n after count (whole 1 (log_in sl) (stable_in sp))) where
+    rules_broken : tree_ok (redone_in sp sl) && pending_ok (redone_in sp sl) (open_batches (log_in sl)) ≡ false → Refuses sp sl Rules
     unfolding redone_pages
-    rules_broken e off y = refused_by Rules off y (λ w. rules_first (over w sp sl) k.layouts k.log (sym answers.fits ∙ fit) e)
+    rules_broken e w = rules_first (over w sp sl) k.layouts k.log c.fits e
 
     tree_is : {t : Bool} → t ≡ tree_ok (pages_of n after) → tree_ok (redone_in sp sl) ≡ t
-    tree_is et = sym (et ∙ ap tree_ok shown)
+    tree_is et = sym (et ∙ ap tree_ok (pages_shown c.pages))
 
     rule_is : {t : Bool} → RuleIs (pages_of n after) m sl rs t → pending_ok (redone_in sp sl) (open_batches (log_in sl)) ≡ t
     rule_is et =
         sym (et (log_in sl) (open_batches (log_in sl)) (record { reads = k.reads; holds = k.holds; rows = k.rows })
-        ∙ ap (λ (xs : List Page). pending_ok xs (open_batches (log_in sl))) shown)
+        ∙ ap (λ (xs : List Page). pending_ok xs (open_batches (log_in sl))) (pages_shown c.pages))
 
-    pub tree_broken : {t : Bool} → t ≡ tree_ok (pages_of n after) → t ≡ false → r.ok ≡ false → r.why ≡ Rules → Readies n m sp sl after r
+    pub tree_broken : {t : Bool} → t ≡ tree_ok (pages_of n after) → t ≡ false → Refuses sp sl Rules
     tree_broken et e = rules_broken (ap (λ (b : Bool). b && pending_ok (redone_in sp sl) (open_batches (log_in sl))) (tree_is et ∙ e))
 
-    pub rule_broken : {t : Bool} → RuleIs (pages_of n after) m sl rs t → t ≡ false → r.ok ≡ false → r.why ≡ Rules → Readies n m sp sl after r
+    pub rule_broken : {t : Bool} → RuleIs (pages_of n after) m sl rs t → t ≡ false → Refuses sp sl Rules
     rule_broken et e = rules_broken (right_off (tree_ok (redone_in sp sl)) (rule_is et ∙ e))
       where
         right_off : (a : Bool) {b : Bool} → b ≡ false → a && b ≡ false
         right_off true e = e
         right_off false e = refl
 
-    pub all_redone : {t u : Bool} → t ≡ tree_ok (pages_of n after) → t ≡ true → RuleIs (pages_of n after) m sl rs u → u ≡ true → r.ok ≡ true → r.rows ≡ rs → r.logged ≡ logged → r.marked ≡ ms → r.count ≡ x.count
-        → Readies n m sp sl after r
-    all_redone et t! eu u! on er el em c =
-        record {
-          refuses = λ z. clash (sym on ∙ z);
-          known = λ _. subst (λ (i : ℕ). Image n m sp sl r.rows i r.marked) (sym el) (subst₂ (λ (ys : List Row) (ns : List Bool). Image n m sp sl ys logged ns) (sym er) (sym em) k);
-          ready = λ _.
-              record {
-                fits = sym answers.fits ∙ fit;
-                tree = tree_is et ∙ t!;
-                pending = rule_is eu ∙ u!;
-                pages = answers.pages fit;
-                count = c ∙ answers.count fit;
-              };
-        }
+    pub all_redone : {t u : Bool} → t ≡ tree_ok (pages_of n after) → t ≡ true → RuleIs (pages_of n after) m sl rs u → u ≡ true → Ready n sp sl after count
+    all_redone et t! eu u! = record { fits = c.fits; tree = tree_is et ∙ t!; pending = rule_is eu ∙ u!; pages = c.pages; count = c.counts }
 
--- ---- judged, copied and redone
+-- ---- copied and redone
 
-pub judged_bad : {n m : ℕ} {sp sl after : List ℕ} (v : Verdict) → Judges n m sp sl v → v.ok ≡ false → Readies n m sp sl after v
-judged_bad v h off = record { refuses = h.refuses; known = λ z. clash (sym z ∙ off); ready = λ z. clash (sym z ∙ off) }
+pub copy_redone : {n m : ℕ} {sp sl wp : List ℕ} {rs : List Row} {logged : ℕ} {ms : List Bool} (after : List ℕ) (r : Result ℕ Refusal) → wp ≡ sp → Image n m sp sl rs logged ms
+    → (Image n m wp sl rs logged ms → Redoes n wp sl after r) → Redoes n sp sl after r
+copy_redone {n} {m} {sp} {sl} {wp} {rs} {logged} {ms} after r e k f =
+    subst (λ (b : List ℕ). Redoes n b sl after r) e (f (subst (λ (b : List ℕ). Image n m b sl rs logged ms) (sym e) k))
 
-pub copy_redone : {n m : ℕ} {sp sl wp after : List ℕ} {rs : List Row} {logged : ℕ} {ms : List Bool} {r : Verdict} → wp ≡ sp → Image n m sp sl rs logged ms
-    → (Image n m wp sl rs logged ms → Readies n m wp sl after r) → Readies n m sp sl after r
-copy_redone {n} {m} {sp} {sl} {wp} {after} {rs} {logged} {ms} {r} e k f =
-    subst (λ (b : List ℕ). Readies n m b sl after r) e (f (subst (λ (b : List ℕ). Image n m b sl rs logged ms) (sym e) k))
+-- Why `ok_or` refuses.
+pub why_refused : {T : Type 0} (o : Option T) (why r : Refusal) → Err r ≡ ok_or o why → o ≡ None → r ≡ why
+why_refused None why r e h = cc
+why_refused (Some x) why r e h = cc

@@ -1,7 +1,7 @@
 -- Insert and delete: their checks, and reply by reply.
-use Rattle.std.specs.Prelude.{◌≡◌, ◌≢◌, ℕ, ◌+◌, ◌<◌, ◌≤◌, Bool, true, false, not, List, [], ◌∷◌, set}
+use Rattle.std.specs.Prelude.{◌≡◌, ◌≢◌, ℕ, ◌+◌, ◌<◌, ◌≤◌, Bool, true, false, not, List, [], ◌∷◌, set, Result, MatchResult}
 use Rattle.std.proofs.Math.Path.{refl, ap, sym, subst}
-use Rattle.std.proofs.Common.{◌∙◌, arith}
+use Rattle.std.proofs.Common.{◌∙◌}
 use Rattle.std.proofs.Math.Option.{Option, none, some}
 use Rattle.def_base.specs.Tests.{clash, neq_false, and_both, le_true}
 use Rattle.def_layout.specs.declared.Desk.{Desk}
@@ -34,7 +34,6 @@ use Rattle.theory_sound.specs.Kept.{Lendable}
 use Rattle.theory_sound.specs.SoundKept.{insert_runs, delete_runs}
 use Rattle.theory_sound.specs.OfBytes.{lendable}
 use Rattle.sound_register.specs.declared.Standing.{Standing}
-use Rattle.call_slides.specs.declared.Bar.{Bar}
 use Rattle.call_slides.specs.Checked.{insert_goes, delete_goes}
 use Rattle.call_slides.specs.Given.{Given, areas, Answers, refuse, given_chain, given_slots, open_place, open_zero, last_is}
 use Rattle.call_slides.specs.Begin.{update_slots, update_pages}
@@ -57,36 +56,30 @@ pub record Free (d : Desk) (l : Lent) (b k : ℕ) (wrong : Bool) (says : Refusal
   pub pages : update_has_pages (work_pages (read_areas l)) (work_open (read_areas l)) ≡ true
   pub none_broken : first_broken (update_checks b k wrong says (read_areas l) d) ≡ none
 
-pub record Bars (d : Desk) (l : Lent) (b k : ℕ) (wrong : Bool) (says : Refusal) (u : Bar) : Type 0 where
-  pub refuses : u.ok ≡ false → first_broken (update_checks b k wrong says (read_areas l) d) ≡ some u.why
-  pub frees : u.ok ≡ true → Free d l b k wrong says u.row
+-- What the checks come to: the place of the batch's row, or which of them is the first broken.
+abbrev pub Bars : (d : Desk) (l : Lent) (b k : ℕ) (wrong : Bool) (says : Refusal) (u : Result ℕ Refusal) → Type 0
+Bars d l b k wrong says u = MatchResult u (Free d l b k wrong says) (λ why. first_broken (update_checks b k wrong says (read_areas l) d) ≡ some why)
 
 module _ {n m : ℕ} {wp sp wl sl : List ℕ} {d : Desk} {st : Standing} (g : Given n m wp sp wl sl d st) (b k : ℕ) where
   -- ---- the checks in their order
 
-  module _ (wrong : Bool) (says : Refusal) (u : Bar) where
-    abbrev Says : Type 0
-    Says = Bars d (lent wp sp wl sl) b k wrong says u
-
+  module _ (wrong : Bool) (says : Refusal) where
     abbrev Stops : Refusal → Type 0
-    Stops why = (u.row < 8) × (u.ok ≡ false) × (u.why ≡ why) → Says
-
-    stop : (why : Refusal) → first_broken (update_checks b k wrong says (areas g) d) ≡ some why → Stops why
-    stop why e h = record { refuses = λ t. e ∙ ap some (sym h.2); frees = λ t. clash (sym t ∙ h.1) }
+    Stops why = first_broken (update_checks b k wrong says (areas g) d) ≡ some why
 
     pub stop_12 : unmarked (find_batch b (work_open (areas g))) ≡ false → Stops NoBatch
     unfolding update_checks first_broken
-    stop_12 q = stop NoBatch (rw (g.is_sound, q))
+    stop_12 q = rw (g.is_sound, q)
 
     module _ (live : unmarked (find_batch b (work_open (areas g))) ≡ true) where
       pub stop_14 : held b k (work_open (areas g)) ≡ true → Stops Held
       unfolding update_checks first_broken
-      stop_14 q = stop Held (rw (g.is_sound, live, q))
+      stop_14 q = rw (g.is_sound, live, q)
 
       module _ (q : held b k (work_open (areas g)) ≡ false) where
         pub stop_key : wrong ≡ true → Stops says
         unfolding update_checks first_broken
-        stop_key w = stop says (rw (g.is_sound, live, q, w))
+        stop_key w = rw (g.is_sound, live, q, w)
 
         module _ (w : wrong ≡ false) (o : ℕ) (used : o ≡ place_of 0 d.rows) where
           slots_are : {x : Bool} → update_slots_by m d.logged st.pending o ≡ x → update_has_slots (work_slots (areas g)) (work_log (areas g)) (work_open (areas g)) ≡ x
@@ -94,20 +87,17 @@ module _ {n m : ℕ} {wp sp wl sl : List ℕ} {d : Desk} {st : Standing} (g : Gi
 
           pub stop_17 : update_slots_by m d.logged st.pending o ≡ false → Stops SlotsShort
           unfolding update_checks first_broken
-          stop_17 s = stop SlotsShort (rw (g.is_sound, live, q, w, slots_are s))
+          stop_17 s = rw (g.is_sound, live, q, w, slots_are s)
 
           module _ (s : update_slots_by m d.logged st.pending o ≡ true) where
             pub stop_18 : update_pages_by st.free st.pending ≡ false → Stops PagesShort
             unfolding update_checks first_broken
-            stop_18 p = stop PagesShort (rw (g.is_sound, live, q, w, slots_are s, update_pages g ∙ p))
+            stop_18 p = rw (g.is_sound, live, q, w, slots_are s, update_pages g ∙ p)
 
-            pub no_stop : update_pages_by st.free st.pending ≡ true → u.ok ≡ true → u.row ≡ open_place b d.rows → u.row < 8 → Says
+            pub no_stop : update_pages_by st.free st.pending ≡ true → (i : ℕ) → i ≡ open_place b d.rows → i < 8 → Free d (lent wp sp wl sl) b k wrong says i
             unfolding update_checks first_broken
-            no_stop p ok e h =
-                record {
-                  refuses = λ t. clash (sym ok ∙ t);
-                  frees = λ t. record { place = e; low = h; right = w; slots = slots_are s; pages = update_pages g ∙ p; none_broken = rw (g.is_sound, live, q, w, slots_are s, update_pages g ∙ p) };
-                }
+            no_stop p i e h =
+                record { place = e; low = h; right = w; slots = slots_are s; pages = update_pages g ∙ p; none_broken = rw (g.is_sound, live, q, w, slots_are s, update_pages g ∙ p) }
 
   -- ---- the key's own check
 
@@ -136,14 +126,14 @@ module _ {n m : ℕ} {wp sp wl sl : List ℕ} {d : Desk} {st : Standing} (g : Gi
   can : Lendable (areas g)
   can = lendable (lent wp sp wl sl) g.lengths
 
-  module _ (wrong : Bool) (u : Bar) where
-    pub insert_barred : (v : ℕ) → k ≢ 0 → wrong ≡ found value → Bars d (lent wp sp wl sl) b k wrong Present u → u.ok ≡ false → Answers g (insert b k v) (Refused u.why)
+  module _ (wrong : Bool) (why : Refusal) where
+    pub insert_barred : (v : ℕ) → k ≢ 0 → wrong ≡ found value → first_broken (update_checks b k wrong Present (areas g) d) ≡ some why → Answers g (insert b k v) (Refused why)
     unfolding request_checks
-    insert_barred v nz w h t = refuse g (insert b k v) u.why (as_insert wrong (some u.why) nz w (h.refuses t))
+    insert_barred v nz w h = refuse g (insert b k v) why (as_insert wrong (some why) nz w h)
 
-    pub delete_barred : wrong ≡ not (found value) → Bars d (lent wp sp wl sl) b k wrong Absent u → u.ok ≡ false → Answers g (delete b k) (Refused u.why)
+    pub delete_barred : wrong ≡ not (found value) → first_broken (update_checks b k wrong Absent (areas g) d) ≡ some why → Answers g (delete b k) (Refused why)
     unfolding request_checks
-    delete_barred w h t = refuse g (delete b k) u.why (as_delete wrong (some u.why) w (h.refuses t))
+    delete_barred w h = refuse g (delete b k) why (as_delete wrong (some why) w h)
 
   -- ---- where no check refuses: one record more, and the row and the count anew
 

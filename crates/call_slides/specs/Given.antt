@@ -1,7 +1,7 @@
 -- What every call has where refusals 1 and 11 find nothing, and what it then knows of batches, slots and pages.
-use Rattle.std.specs.Prelude.{◌≡◌, ℕ, zero, suc, ◌*◌, ◌≤◌, ◌<◌, ◌≢◌, ◌⊎◌, Bool, eqb}
-use Rattle.std.proofs.Math.Path.{refl, ap, sym}
-use Rattle.std.proofs.Common.{◌∙◌, subst, arith, inl, inr, ⊎_elim}
+use Rattle.std.specs.Prelude.{◌≡◌, ℕ, zero, suc, ◌*◌, ◌≤◌, ◌<◌, ◌≢◌, ◌⊎◌, Bool, eqb, None}
+use Rattle.std.proofs.Math.Path.{refl, ap, sym, subst}
+use Rattle.std.proofs.Common.{◌∙◌, arith, ⊎_elim}
 use Rattle.std.proofs.Math.Bool.{true, false, not}
 use Rattle.std.proofs.Math.Option.{Option, none, some}
 use mathlib.Core.List.{List, [], ◌∷◌, map}
@@ -38,7 +38,8 @@ use Rattle.law_bytes.specs.DeskRows.{place_of}
 use Rattle.theory_desk.specs.Opened.{batch_at, log_chain, zero_not_open}
 use Rattle.theory_desk.specs.Said.{said_row, said_used, said_none, said_found}
 use Rattle.log_chain.specs.Shown.{marks_of}
-use Rattle.tree_write.specs.Shows.{quiet_emit}
+use Rattle.tree_write.specs.declared.Run as run
+use Rattle.tree_write.specs.Shows.{Shows, quiet_emit}
 use Rattle.call_reply.specs.declared.Reply.{Reply}
 use Rattle.call_reply.specs.Replies.{Replies, left_alone}
 use Rattle.sound_register.specs.declared.Standing.{Standing}
@@ -52,26 +53,15 @@ pub record Given (n m : ℕ) (wp sp wl sl : List ℕ) (d : Desk) (r : Standing) 
 abbrev pub open_place : ℕ → List Row → ℕ
 open_place b rows = pick (eqb b 0) 8 (place_of b rows)
 
--- The row's place of an open batch without its abort mark; 8 stands for none.
+-- The row's place of an open batch without its abort mark.
 pub record Live (rows : List Row) (marked : List Bool) (b i : ℕ) : Type 0 where
-  pub place : i < 8 → i ≡ open_place b rows
-  pub free : i < 8 → get_or marked i false ≡ false
-  pub none_there : 8 ≤ i → (8 ≤ open_place b rows) ⊎ ((open_place b rows < 8) × (get_or marked (open_place b rows) false ≡ true))
+  pub low : i < 8
+  pub place : i ≡ open_place b rows
+  pub free : get_or marked i false ≡ false
 
-module _ (rows : List Row) (marked : List Bool) (b : ℕ) where
-  pub live_8_none : open_place b rows ≡ 8 → Live rows marked b 8
-  live_8_none e = record { place = λ h. absurd (omega arith); free = λ h. absurd (omega arith); none_there = λ h. inl (omega (arith, e)) }
-
-  pub live_8_marked : (i : ℕ) → i ≡ open_place b rows → i < 8 → get_or marked i false ≡ true → Live rows marked b 8
-  live_8_marked i e h t =
-      record {
-        place = λ q. absurd (omega arith);
-        free = λ q. absurd (omega arith);
-        none_there = λ q. inr (subst (λ (j : ℕ). j < 8) e h, subst (λ (j : ℕ). get_or marked j false ≡ true) e t);
-      }
-
-  pub live_there : (i : ℕ) → i ≡ open_place b rows → i < 8 → get_or marked i false ≡ false → Live rows marked b i
-  live_there i e h t = record { place = λ q. e; free = λ q. t; none_there = λ q. absurd (omega arith) }
+-- There is none: the batch is not open, or it has its mark.
+abbrev pub NotLive : List Row → List Bool → ℕ → Type 0
+NotLive rows marked b = (open_place b rows ≡ 8) ⊎ ((open_place b rows < 8) × (get_or marked (open_place b rows) false ≡ true))
 
 module _ {n m : ℕ} {wp sp wl sl : List ℕ} {d : Desk} {r : Standing} (g : Given n m wp sp wl sl d r) where
   abbrev pub areas : Areas
@@ -120,6 +110,10 @@ module _ {n m : ℕ} {wp sp wl sl : List ℕ} {d : Desk} {r : Standing} (g : Giv
       let same : of_leaves xs ls ≡ ls = sym (paired_lefts xs (of_leaves xs ls) (of_leaves_length xs ls)) ∙ ap (map (λ y. y.left)) (paired_leaves xs ls p.links) ∙ paired_lefts xs ls e in
       let s = sound_parts areas d g.is_sound in
       relinked_same xs (test_sound xs s.tree) ls same s.lefts
+
+  -- The areas show a run that begins at the desk's last record.
+  pub run_shown : (t : run.Run) → t ≡ record { logged = d.logged; stop = None } → Shows n m wp wl t (run_of areas)
+  run_shown t e = subst (λ (v : run.Run). Shows n m wp wl v (run_of areas)) (sym e) (g.known.shows sp)
 
   -- A record that changes no page leaves them.
   pub quiet_links : (kind : Kind) (b previous : ℕ) → shape kind ≡ changes false false false false
@@ -204,14 +198,14 @@ module _ {n m : ℕ} {wp sp wl sl : List ℕ} {d : Desk} {r : Standing} (g : Giv
   unfolding unmarked
   live_some b i e h q = ap unmarked (open_found b i e h) ∙ ap not (sym (mark_is i h) ∙ q)
 
-  pub live_is : (b i : ℕ) → i < 8 → Live d.rows r.marked b i → unmarked (find_batch b bs) ≡ true
-  live_is b i h l = live_some b i (l.place h) h (l.free h)
+  pub live_is : (b i : ℕ) → Live d.rows r.marked b i → unmarked (find_batch b bs) ≡ true
+  live_is b i l = live_some b i l.place l.low l.free
 
   pub last_is : (b i : ℕ) → i ≡ open_place b d.rows → i < 8 → (row_at d.rows i).last ≡ last_record b areas
   unfolding last_of row_of
   last_is b i e h = ap (λ (x : Row). x.last) (row_is i) ∙ sym (ap last_of (open_found b i e h))
 
-  pub live_not : (b i : ℕ) → 8 ≤ i → Live d.rows r.marked b i → unmarked (find_batch b bs) ≡ false
-  live_not b i h l =
-      ⊎_elim (λ (q : 8 ≤ open_place b d.rows). live_none b (open_place b d.rows) refl q)
-      (λ (q : (open_place b d.rows < 8) × (get_or r.marked (open_place b d.rows) false ≡ true)). live_marked b (open_place b d.rows) refl q.0 q.1) (l.none_there h)
+  pub live_not : (b : ℕ) → NotLive d.rows r.marked b → unmarked (find_batch b bs) ≡ false
+  live_not b h =
+      ⊎_elim (λ (q : open_place b d.rows ≡ 8). live_none b (open_place b d.rows) refl (omega (arith, q)))
+      (λ (q : (open_place b d.rows < 8) × (get_or r.marked (open_place b d.rows) false ≡ true)). live_marked b (open_place b d.rows) refl q.0 q.1) h

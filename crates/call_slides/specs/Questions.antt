@@ -1,5 +1,6 @@
 -- Fetch, next and previous, reply by reply.
-use Rattle.std.specs.Prelude.{◌≡◌, ℕ, ◌<◌, ◌≤◌, true, false, List}
+use Rattle.std.specs.Prelude.{◌≡◌, ℕ, ◌<◌, ◌≤◌, true, false, List, MatchOption}
+use Rattle.std.specs.Prelude as program
 use Rattle.std.proofs.Math.Path.{ap, sym}
 use Rattle.std.proofs.Common.{◌∙◌, subst}
 use Rattle.std.proofs.Math.Option.{Option, none, some}
@@ -15,16 +16,34 @@ use Rattle.def_model.specs.Batches.{find_batch}
 use Rattle.def_model.specs.Pending.{held, held_between, held_from}
 use Rattle.def_model.specs.Sound.{work_pages, work_log, work_open}
 use Rattle.def_model.specs.Calls.{is_none, next_limit, before, previous_limit, fetch_checks, next_checks, previous_checks}
-use Rattle.def_model.specs.OnBytes.{fetch, next, previous, ask, question_checks, request_checks, read_areas}
+use Rattle.def_model.specs.OnBytes.{fetch, next, previous, ask, request, question_checks, request_checks, read_areas}
 use Rattle.law_bytes.specs.PageAreas as shown
 use Rattle.law_areas.specs.Pages.{AllPagesFit}
 use Rattle.sound_register.specs.Parts.{lefts_read}
 use Rattle.record_pages.specs.Pages.{pages_shown}
 use Rattle.sound_pending.specs.Rows as pending
+use Rattle.area_lengths.specs.Lent.{lent}
+use Rattle.call_reply.specs.declared.Reply.{Reply}
+use Rattle.call_reply.specs.Replies.{Replies}
+use Rattle.tree_lookup.specs.Answers.{option_of}
 use Rattle.sound_register.specs.declared.Standing.{Standing}
 use Rattle.sound_register.specs.Standing.{known_rows}
 use Rattle.call_slides.specs.Checked.{fetch_goes, next_goes, previous_goes}
 use Rattle.call_slides.specs.Given.{Given, areas, given_length, answer, refuse, Answers, open_place, open_none, open_some}
+
+-- The reply that tells the entry that was found, or that there is none.
+abbrev pub Tells : program.Option Entry → Reply → Type 0
+Tells o y = MatchOption o (y.answer ≡ Refused Absent) (λ e. y.answer ≡ Pair e.key e.val)
+
+next_bound : (o : program.Option Entry) (limit : ℕ) → MatchOption o (limit ≡ top) (λ e. limit ≡ e.key) → limit ≡ next_limit (option_of o)
+unfolding next_limit
+next_bound program.None limit l = l
+next_bound (program.Some e) limit l = l
+
+previous_bound : (o : program.Option Entry) (limit : ℕ) → MatchOption o (limit ≡ 0) (λ e. limit ≡ e.key) → limit ≡ previous_limit (option_of o)
+unfolding previous_limit
+previous_bound program.None limit l = l
+previous_bound (program.Some e) limit l = l
 
 module _ {n m : ℕ} {wp sp wl sl : List ℕ} {d : Desk} {st : Standing} (g : Given n m wp sp wl sl d st) where
   -- What the bytes show is what the definitions read.
@@ -90,6 +109,19 @@ module _ {n m : ℕ} {wp sp wl sl : List ℕ} {d : Desk} {st : Standing} (g : Gi
       unfolding next_limit
       next_0 key v f q = answer g (ask (next b k)) (Pair key v) (next_goes (areas g) d g.is_sound b k there (entry key v) f q)
 
+      -- The limit of what must not be held is the key that was found, or the top.
+      pub next_held : (o : program.Option Entry) (limit : ℕ) → next_above k (work_pages (areas g)) ≡ option_of o → MatchOption o (limit ≡ top) (λ e. limit ≡ e.key)
+          → held_between b k limit (work_open (areas g)) ≡ true → Answers g (ask (next b k)) (Refused Held)
+      next_held o limit f l q =
+          next_14 (option_of o) f (subst (λ (j : ℕ). held_between b k j (work_open (areas g)) ≡ true) (next_bound o limit l) q)
+
+      pub next_told : (o : program.Option Entry) (limit : ℕ) → next_above k (work_pages (areas g)) ≡ option_of o → MatchOption o (limit ≡ top) (λ e. limit ≡ e.key)
+          → held_between b k limit (work_open (areas g)) ≡ false → (budget : ℕ) (y : Reply) → Tells o y → y.desk ≡ d
+          → Replies (request (ask (next b k))) (lent wp sp wl sl) d budget y (lent wp sp wl sl)
+      next_told program.None limit f l q budget y a e = next_16 f (subst (λ (j : ℕ). held_between b k j (work_open (areas g)) ≡ false) l q) budget y (a, e)
+      next_told (program.Some x) limit f l q budget y a e =
+          next_0 x.key x.val f (subst (λ (j : ℕ). held_between b k j (work_open (areas g)) ≡ false) l q) budget y (a, e)
+
       pub previous_14 : (o : Option Entry) → before k (areas g) ≡ o → held_from b (previous_limit o) k (work_open (areas g)) ≡ true → Answers g (ask (previous b k)) (Refused Held)
       unfolding request_checks question_checks previous_checks first_broken
       previous_14 o f q = refuse g (ask (previous b k)) Held (rw (g.is_sound, there, f, q))
@@ -101,3 +133,16 @@ module _ {n m : ℕ} {wp sp wl sl : List ℕ} {d : Desk} {st : Standing} (g : Gi
       pub previous_0 : (key v : ℕ) → before k (areas g) ≡ some (entry key v) → held_from b key k (work_open (areas g)) ≡ false → Answers g (ask (previous b k)) (Pair key v)
       unfolding previous_limit
       previous_0 key v f q = answer g (ask (previous b k)) (Pair key v) (previous_goes (areas g) d g.is_sound b k there (entry key v) f q)
+
+      -- So of previous, where it is the key that was found, or 0.
+      pub previous_held : (o : program.Option Entry) (limit : ℕ) → before k (areas g) ≡ option_of o → MatchOption o (limit ≡ 0) (λ e. limit ≡ e.key)
+          → held_from b limit k (work_open (areas g)) ≡ true → Answers g (ask (previous b k)) (Refused Held)
+      previous_held o limit f l q =
+          previous_14 (option_of o) f (subst (λ (j : ℕ). held_from b j k (work_open (areas g)) ≡ true) (previous_bound o limit l) q)
+
+      pub previous_told : (o : program.Option Entry) (limit : ℕ) → before k (areas g) ≡ option_of o → MatchOption o (limit ≡ 0) (λ e. limit ≡ e.key)
+          → held_from b limit k (work_open (areas g)) ≡ false → (budget : ℕ) (y : Reply) → Tells o y → y.desk ≡ d
+          → Replies (request (ask (previous b k))) (lent wp sp wl sl) d budget y (lent wp sp wl sl)
+      previous_told program.None limit f l q budget y a e = previous_16 f (subst (λ (j : ℕ). held_from b j k (work_open (areas g)) ≡ false) l q) budget y (a, e)
+      previous_told (program.Some x) limit f l q budget y a e =
+          previous_0 x.key x.val f (subst (λ (j : ℕ). held_from b j k (work_open (areas g)) ≡ false) l q) budget y (a, e)

@@ -1,56 +1,50 @@
 // The calls on the lent areas of a sound register: begin, fetch, next, previous, insert and delete.
 #![tactic(auto)]
 
-ghost use Rattle.std.specs.Prelude.{◌≡◌, ◌≢◌, false, List, ℕ, ◌+◌, ◌≤◌, ◌<◌, set};
+ghost use Rattle.std.specs.Prelude.{◌≡◌, ◌≢◌, List, ℕ, ◌+◌, ◌≤◌, ◌<◌, set, IfOk, MatchOption};
 ghost use Rattle.def_layout.specs.Sizes.{most_slots};
 ghost use Rattle.def_layout.specs.Desks.{row_at};
-ghost use Rattle.def_model.specs.Fit.{found};
-ghost use Rattle.def_model.specs.Calls.{value_or};
 ghost use Rattle.def_model.specs.CallNames as calls;
 ghost use Rattle.law_bytes.specs.AreaSizes.{HasSlots, HasAreas};
 ghost use Rattle.law_bytes.specs.DeskRows.{LowRows};
-ghost use Rattle.tree_lookup.specs.Answers.{value_of};
 ghost use Rattle.area_lengths.specs.Lent.{lent};
 ghost use Rattle.call_reply.specs.Replies.{Replies};
-ghost use Rattle.call_slides.specs.Given.{Given, open_place, Live};
+ghost use Rattle.call_slides.specs.Given.{Given, open_place, Live, NotLive};
 ghost use Rattle.call_slides.specs.Changes.{Bars};
+ghost use Rattle.call_slides.specs.Questions.{Tells};
 
 use call_reply::{Reply, refused};
 use codec_desk::{new_row, row_place, used_rows};
-use def_layout::{Desk, Row};
+use def_layout::{Desk, Entry, Row};
 use def_model::{Answer, Refusal};
 use sound_parts::{begin_has_slots, update_has_pages, update_has_slots};
 use sound_pending::{held, held_between, held_from};
 use sound_register::Standing;
 use tree_add::put_record;
 use tree_links::relink;
-use tree_lookup::{Slide, Value, fetched, next_above, previous_below};
+use tree_lookup::{fetched, next_above, previous_below};
 use tree_remove::remove_record;
 use tree_write::{Run, note};
 
-// The place of an open batch's row, or 8. Batch 0 is never open.
-pub fn open_row(d: Desk, b: u32) -> usize
-    ensures { (result ≡ open_place b d.rows) × (result ≤ 8) }
+// The place of an open batch's row. Batch 0 is never open.
+pub fn open_row(d: Desk, b: u32) -> Option<usize>
+    ensures { MatchOption result (open_place b d.rows ≡ 8) (λ i. (i ≡ open_place b d.rows) × (i < 8)) }
 {
     if b == 0 {
-        return 8;
+        return None;
     }
-    let rows = d.rows;
-    row_place(rows, b)
+    row_place(d.rows, b)
 }
 
 // The same of a batch that has no abort mark.
-pub fn live_row(d: Desk, marked: [bool; 8], b: u32) -> usize
-    ensures { (result ≤ 8) × Live d.rows marked b result }
+pub fn live_row(d: Desk, marked: [bool; 8], b: u32) -> Option<usize>
+    ensures { MatchOption result (NotLive d.rows marked b) (Live d.rows marked b) }
 {
-    let i = open_row(d, b);
-    if i == 8 {
-        return 8;
-    }
+    let i = open_row(d, b)?;
     if marked[i] {
-        return 8;
+        return None;
     }
-    i
+    Some(i)
 }
 
 // "Begin answers the new batch number."
@@ -59,8 +53,7 @@ pub fn begin_in(wl: &mut [u8], m: usize, d: Desk, st: Standing) -> Reply
     ensures { (n budget : ℕ) (wp sp sl : List ℕ) → Given n m wp sp wl.old sl d st
         → Replies calls.begin (lent wp sp wl.old sl) d budget result (lent wp sp wl.new sl) }
 {
-    let rows = d.rows;
-    let i = used_rows(rows);
+    let i = used_rows(d.rows);
     if i == 8 {
         return refused(Refusal::EightOpen, d);
     }
@@ -68,10 +61,7 @@ pub fn begin_in(wl: &mut [u8], m: usize, d: Desk, st: Standing) -> Reply
         return refused(Refusal::SlotsShort, d);
     }
     let b = d.logged + 1;
-    let t = Run {
-        logged: d.logged,
-        stop: 0,
-    };
+    let t = Run::at(d.logged);
     let u = note(wl, m, t, 1, b, 0);
     let desk = d.with_row(i, new_row(b));
     Reply {
@@ -86,18 +76,42 @@ pub fn fetch_in(wp: &[u8], wl: &[u8], n: usize, m: usize, d: Desk, b: u32, k: u3
     ensures { (budget : ℕ) (sp sl : List ℕ) (st : Standing) → Given n m wp.now sp wl.now sl d st
         → Replies (calls.fetch b k) (lent wp.now sp wl.now sl) d budget result (lent wp.now sp wl.now sl) }
 {
-    if open_row(d, b) == 8 {
+    if open_row(d, b).is_none() {
         return refused(Refusal::NoBatch, d);
     }
     if held(wl, m, d, b, k) {
         return refused(Refusal::Held, d);
     }
-    let Value::Is(v) = fetched(wp, n, k) else {
-        return refused(Refusal::Absent, d);
-    };
-    Reply {
-        answer: Answer::Number(v),
-        desk: d,
+    match fetched(wp, n, k) {
+        Some(v) => Reply {
+            answer: Answer::Number(v),
+            desk: d,
+        },
+        None => refused(Refusal::Absent, d),
+    }
+}
+
+// The key that a next or a previous found, or this one. By `map_or` the callers' proofs did not see the closure's answer.
+fn key_or(found: Option<Entry>, none: u32) -> u32
+    ensures { MatchOption found (result ≡ none) (λ e. result ≡ e.key) }
+{
+    match found {
+        Some(e) => e.key,
+        None => none,
+    }
+}
+
+// The reply of a next or a previous.
+fn pair_or_absent(found: Option<Entry>, d: Desk) -> Reply
+    ensures desk { result.desk ≡ d }
+    ensures answer { Tells found result }
+{
+    match found {
+        Some(e) => Reply {
+            answer: Answer::Pair(e.key, e.val),
+            desk: d,
+        },
+        None => refused(Refusal::Absent, d),
     }
 }
 
@@ -107,22 +121,15 @@ pub fn next_in(wp: &[u8], wl: &[u8], n: usize, m: usize, d: Desk, b: u32, k: u32
     ensures { (budget : ℕ) (sp sl : List ℕ) (st : Standing) → Given n m wp.now sp wl.now sl d st
         → Replies (calls.next b k) (lent wp.now sp wl.now sl) d budget result (lent wp.now sp wl.now sl) }
 {
-    if open_row(d, b) == 8 {
+    if open_row(d, b).is_none() {
         return refused(Refusal::NoBatch, d);
     }
-    let Slide::Is(key, v) = next_above(wp, n, k) else {
-        if held_between(wl, m, d, b, k, 4294967295) {
-            return refused(Refusal::Held, d);
-        }
-        return refused(Refusal::Absent, d);
-    };
-    if held_between(wl, m, d, b, k, key) {
+    let above = next_above(wp, n, k);
+    let limit = key_or(above, u32::MAX);
+    if held_between(wl, m, d, b, k, limit) {
         return refused(Refusal::Held, d);
     }
-    Reply {
-        answer: Answer::Pair(key, v),
-        desk: d,
-    }
+    pair_or_absent(above, d)
 }
 
 // 02, U5: "previous", the mirror of next, with the same rule on held keys.
@@ -131,22 +138,15 @@ pub fn previous_in(wp: &[u8], wl: &[u8], n: usize, m: usize, d: Desk, b: u32, k:
     ensures { (budget : ℕ) (sp sl : List ℕ) (st : Standing) → Given n m wp.now sp wl.now sl d st
         → Replies (calls.previous b k) (lent wp.now sp wl.now sl) d budget result (lent wp.now sp wl.now sl) }
 {
-    if open_row(d, b) == 8 {
+    if open_row(d, b).is_none() {
         return refused(Refusal::NoBatch, d);
     }
-    let Slide::Is(key, v) = previous_below(wp, n, k) else {
-        if held_from(wl, m, d, b, 0, k) {
-            return refused(Refusal::Held, d);
-        }
-        return refused(Refusal::Absent, d);
-    };
-    if held_from(wl, m, d, b, key, k) {
+    let below = previous_below(wp, n, k);
+    let limit = key_or(below, 0);
+    if held_from(wl, m, d, b, limit, k) {
         return refused(Refusal::Held, d);
     }
-    Reply {
-        answer: Answer::Pair(key, v),
-        desk: d,
-    }
+    pair_or_absent(below, d)
 }
 
 // The desk after an update of batch b, in row i, whose record is number `logged`.
@@ -154,56 +154,17 @@ fn updated(d: Desk, i: usize, b: u32, logged: u32) -> Desk
     requires { (i < 8) × ((row_at d.rows i).pending ≤ most_slots) }
     ensures { result ≡ record { rows = set d.rows i (record { batch = b; last = logged; undo = logged; pending = (row_at d.rows i).pending + 1 }); logged = logged; stored = d.stored } }
 {
-    let pending = d.rows[i].pending;
     let new = Row {
         batch: b,
         last: logged,
         undo: logged,
-        pending: pending + 1,
+        pending: d.rows[i].pending + 1,
     };
     d.with_row(i, new).with_logged(logged)
 }
 
-// Whether a key has a value.
-fn is_there(f: Value) -> bool
-    ensures { result ≡ found (value_of f) }
-{
-    match f {
-        Value::Absent => false,
-        Value::Is(_) => true,
-    }
-}
-
-// A key's value, 0 where it has none.
-fn value_in(f: Value) -> u32
-    ensures { result ≡ value_or (value_of f) }
-{
-    match f {
-        Value::Absent => 0,
-        Value::Is(v) => v,
-    }
-}
-
-// What an update's checks come to: its batch's row; or, where they are not ok, why.
-#[derive(Clone, Copy)]
-struct Bar {
-    ok: bool,
-    why: Refusal,
-    row: usize,
-}
-
-fn barred(why: Refusal) -> Bar
-    ensures { (result.row < 8) × (result.ok ≡ false) × (result.why ≡ why) }
-{
-    Bar {
-        ok: false,
-        why,
-        row: 0,
-    }
-}
-
-// The checks of an insert and of a delete, which differ in the key's: whether it is `wrong`, and what that `says`.
-fn update_bar(
+// The checks of an insert and of a delete, which differ in the key's: whether it is `wrong`, and what that `says`. The place of the batch's row, if none refuses.
+fn update_row(
     wl: &[u8],
     m: usize,
     d: Desk,
@@ -212,35 +173,26 @@ fn update_bar(
     k: u32,
     wrong: bool,
     says: Refusal,
-) -> Bar
+) -> Result<usize, Refusal>
     requires { HasSlots m wl.now × (d.logged ≤ m) × (st.pending ≤ most_slots) }
-    ensures { (result.row < 8)
-        × ((n : ℕ) (wp sp sl : List ℕ) → Given n m wp sp wl.now sl d st → Bars d (lent wp sp wl.now sl) b k wrong says result) }
+    ensures low { IfOk result (λ i. i < 8) }
+    ensures bars { (n : ℕ) (wp sp sl : List ℕ) → Given n m wp sp wl.now sl d st → Bars d (lent wp sp wl.now sl) b k wrong says result }
 {
-    let marked = st.marked;
-    let row = live_row(d, marked, b);
-    if row == 8 {
-        return barred(Refusal::NoBatch);
-    }
+    let row = live_row(d, st.marked, b).ok_or(Refusal::NoBatch)?;
     if held(wl, m, d, b, k) {
-        return barred(Refusal::Held);
+        return Err(Refusal::Held);
     }
     if wrong {
-        return barred(says);
+        return Err(says);
     }
-    let rows = d.rows;
-    let open = used_rows(rows);
+    let open = used_rows(d.rows);
     if !update_has_slots(m, d.logged as usize, st.pending as usize, open) {
-        return barred(Refusal::SlotsShort);
+        return Err(Refusal::SlotsShort);
     }
     if !update_has_pages(st.free, st.pending as usize) {
-        return barred(Refusal::PagesShort);
+        return Err(Refusal::PagesShort);
     }
-    Bar {
-        ok: true,
-        why: says,
-        row,
-    }
+    Ok(row)
 }
 
 // A slide is filed.
@@ -260,22 +212,17 @@ pub fn insert_in(
         → Replies (calls.insert b k v) (lent wp.old sp wl.old sl) d budget result (lent wp.new sp wl.new sl) }
 {
     let f = fetched(wp, n, k);
-    let u = update_bar(wl, m, d, st, b, k, is_there(f), Refusal::Present);
-    if !u.ok {
-        let why = u.why;
-        return refused(why, d);
-    }
-    let i = u.row;
-    let t = Run {
-        logged: d.logged,
-        stop: 0,
+    let i = match update_row(wl, m, d, st, b, k, f.is_some(), Refusal::Present) {
+        Ok(i) => i,
+        Err(why) => return refused(why, d),
     };
+    let t = Run::at(d.logged);
     let last = d.rows[i].last;
-    let e = put_record(wp, wl, n, m, t, 2, b, last, k, v);
+    let u = put_record(wp, wl, n, m, t, 2, b, last, k, v);
     relink(wp, n);
     Reply {
         answer: Answer::Done,
-        desk: updated(d, i, b, e.logged),
+        desk: updated(d, i, b, u.logged),
     }
 }
 
@@ -295,21 +242,16 @@ pub fn delete_in(
         → Replies (calls.delete b k) (lent wp.old sp wl.old sl) d budget result (lent wp.new sp wl.new sl) }
 {
     let f = fetched(wp, n, k);
-    let u = update_bar(wl, m, d, st, b, k, !is_there(f), Refusal::Absent);
-    if !u.ok {
-        let why = u.why;
-        return refused(why, d);
-    }
-    let i = u.row;
-    let t = Run {
-        logged: d.logged,
-        stop: 0,
+    let i = match update_row(wl, m, d, st, b, k, f.is_none(), Refusal::Absent) {
+        Ok(i) => i,
+        Err(why) => return refused(why, d),
     };
+    let t = Run::at(d.logged);
     let last = d.rows[i].last;
-    let e = remove_record(wp, wl, n, m, t, 3, b, last, k, value_in(f));
+    let u = remove_record(wp, wl, n, m, t, 3, b, last, k, f.unwrap_or(0));
     relink(wp, n);
     Reply {
         answer: Answer::Done,
-        desk: updated(d, i, b, e.logged),
+        desk: updated(d, i, b, u.logged),
     }
 }

@@ -1,5 +1,5 @@
 -- Restart's first round: a 7 for each open batch without one, in order. The rows say what the log says after it.
-use Rattle.std.specs.Prelude.{ℕ, suc, ◌+◌, ◌<◌, ◌≤◌, ◌≡◌, Bool, true}
+use Rattle.std.specs.Prelude.{ℕ, suc, ◌+◌, ◌<◌, ◌≤◌, ◌≡◌, Bool, true, Option, Some, None, IsSome, IsNone}
 use Rattle.std.proofs.Math.Path.{refl, sym, ap, ap₂, subst}
 use Rattle.std.proofs.Common.{◌∙◌, arith, add-one}
 use Rattle.std.proofs.Math.Bool.{false}
@@ -8,12 +8,13 @@ use Rattle.std.proofs.Math.ListN.{length, get_or, set, length-append}
 use Rattle.def_layout.specs.declared.Row.{Row}
 use Rattle.def_layout.specs.Desks.{no_row, row_at, eight_rows}
 use Rattle.def_layout.specs.Records.{Rec, kind_of, batch_row, abort_mark}
+use Rattle.def_model.specs.declared.Refusal.{Refusal}
 use Rattle.def_model.specs.Update.{Run, emit}
 use Rattle.def_model.specs.Batches.{Batch, row_of, mark_set, open_batches}
 use Rattle.def_model.specs.Undo.{mark_by, mark_all}
 use Rattle.law_bytes.specs.Pieces.{All}
 use Rattle.tree_write.specs.declared.Run as program
-use Rattle.tree_write.specs.Shows.{Shows}
+use Rattle.tree_write.specs.Shows.{Shows, Stops, stops_not_zero}
 use Rattle.log_pending.specs.Below.{Linked}
 use Rattle.law_bytes.specs.Eights.{eight}
 use Rattle.log_chain.specs.Shown.{marks_of}
@@ -45,6 +46,10 @@ mark_row_is : (b : Batch) (row : Row) (k j : ℕ) → row ≡ row_of b → j ≡
 unfolding row_of mark_set
 mark_row_is b row k j e q = ap₂ (λ (x : Row) (v : ℕ). record { batch = x.batch; last = v; undo = x.undo; pending = x.pending }) e q
 
+none_stops : (o : Option Refusal) (n : ℕ) → IsNone o → Stops o n → n ≡ 0
+none_stops None n e h = h
+none_stops (Some why) n e h = cc
+
 mark_lines : (b : Batch) (k : ℕ) → (mark_set k b).lines ≡ b.lines
 unfolding mark_set
 mark_lines b k = refl
@@ -68,11 +73,11 @@ module _ {n m : ℕ} {wp wl : List ℕ} (s : Run) (xs : List Batch) (b : Batch) 
     shown : Shows n m wp wl u (emit (mark_of b) s)
     shown = subst (λ (x : Rec). Shows n m wp wl u (emit x s)) is_mark h
 
-    pub row_halted : (u.stop ≡ 0 → ⊥) → MarksRow n m wp wl (record { run = u; row = row }) s xs b ys
+    pub row_halted : IsSome u.stop → MarksRow n m wp wl (record { run = u; row = row }) s xs b ys
     row_halted z = go (emitted (mark_of b) s)
       where
         go : Emitted (mark_of b) s → MarksRow n m wp wl (record { run = u; row = row }) s xs b ys
-        go (wrote l w) = absurd (z (sym shown.stop ∙ w))
+        go (wrote l w) = absurd (stops_not_zero u.stop _ z shown.stop w)
         go (halted l w) =
             record {
               run = subst (Shows n m wp wl u) (sym by_mark) shown;
@@ -85,14 +90,14 @@ module _ {n m : ℕ} {wp wl : List ℕ} (s : Run) (xs : List Batch) (b : Batch) 
     abbrev pub marked_row : Row
     marked_row = record { batch = row.batch; last = u.logged; undo = row.undo; pending = row.pending }
 
-    pub row_marked : u.stop ≡ 0 → MarksRow n m wp wl (record { run = u; row = marked_row }) s xs b ys
+    pub row_marked : IsNone u.stop → MarksRow n m wp wl (record { run = u; row = marked_row }) s xs b ys
     row_marked z = go (emitted (mark_of b) s)
       where
         number : (emit (mark_of b) s).log ≡ s.log ++ mark_of b ∷ [] → u.logged ≡ suc (length s.log)
         number l = sym shown.logged ∙ ap (λ (x : List Rec). length x) l ∙ length-append s.log (mark_of b ∷ []) ∙ add-one (length s.log)
 
         go : Emitted (mark_of b) s → MarksRow n m wp wl (record { run = u; row = marked_row }) s xs b ys
-        go (halted l w) = absurd (w (shown.stop ∙ z))
+        go (halted l w) = absurd (w (none_stops u.stop _ z shown.stop))
         go (wrote l w) =
             record {
               run = subst (Shows n m wp wl u) (sym by_mark) shown;

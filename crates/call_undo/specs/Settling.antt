@@ -133,7 +133,7 @@ Settles n m wp₀ wl₀ wp wl t₀ t rows₀ rows count left =
     → SettledTo n m wp wl t rows left l (undo_all count cs s)
 
 pub settles_start : {n m : ℕ} {wp wl : List ℕ} {t : program.Run} {rows : List Row} (count : ℕ) → Settles n m wp wl wp wl t t rows rows count count
-settles_start count s l cs h g f d k = record { run = s; batches = cs; shows = h; grown = g; due = d; distinct = k; rest = refl }
+settles_start times s l cs h g f d k = record { run = s; batches = cs; shows = h; grown = g; due = d; distinct = k; rest = refl }
 
 -- Batches that have nothing pending: nothing is undone.
 abbrev Idle : List Batch → Type 0

@@ -5,7 +5,7 @@ ghost use Rattle.std.specs.Prelude.{◌≡◌, false, List, map, ◌≤◌, ◌<
 ghost use Rattle.def_layout.specs.Desks.{eight_rows};
 ghost use Rattle.def_layout.specs.Records.{Rec};
 ghost use Rattle.def_model.specs.Update as model;
-ghost use Rattle.def_model.specs.Batches as batches;
+ghost use Rattle.def_model.specs.Batches as model_batches;
 ghost use Rattle.def_model.specs.Undo as undoing;
 ghost use Rattle.def_model.specs.Restart as restart;
 ghost use Rattle.law_bytes.specs.AreaSizes.{HasAreas};
@@ -27,6 +27,7 @@ ghost use Rattle.call_undo.specs.Settling.{UndoesTurn};
 
 use codec_desk::used_rows;
 use def_layout::Row;
+use log_chain::Batches;
 use log_judge::pending_total;
 use log_pending::{Line, line_at};
 use record_apply::Record;
@@ -60,8 +61,8 @@ pub fn undo_line(
     x: Line,
 ) -> Run
     requires { HasAreas n m wp.old wl.old }
-    ensures { (s : model.Run) (y : batches.Line) (ys : List batches.Line) → Shows n m wp.old wl.old t s → x ≡ shown_line y ys
-        → Shows n m wp.new wl.new result (undoing.undo_line batch (batches.next_undo ys) y s) }
+    ensures { (s : model.Run) (y : model_batches.Line) (ys : List model_batches.Line) → Shows n m wp.old wl.old t s → x ≡ shown_line y ys
+        → Shows n m wp.new wl.new result (undoing.undo_line batch (model_batches.next_undo ys) y s) }
 {
     if x.adds {
         return remove_record(wp, wl, n, m, t, 4, batch, x.below, x.key, 0);
@@ -112,7 +113,7 @@ fn end_batch(wp: &mut [u8], wl: &mut [u8], n: usize, m: usize, t: Run, batch: u3
 // 01: "Abort writes a 7, undoes newest first, always from the root, then writes an 8": the batch of this row.
 pub fn abort_run(wp: &mut [u8], wl: &mut [u8], n: usize, m: usize, t: Run, row: Row) -> Run
     requires { HasAreas n m wp.old wl.old }
-    ensures { (s : model.Run) (y : batches.Batch) → Shows n m wp.old wl.old t s → row ≡ batches.row_of y → Sits s.log y → AllFit 1 s.log
+    ensures { (s : model.Run) (y : model_batches.Batch) → Shows n m wp.old wl.old t s → row ≡ model_batches.row_of y → Sits s.log y → AllFit 1 s.log
         → Shows n m wp.new wl.new result (undoing.abort_run y s) }
 {
     let r: Record = batch_row(7, row.batch, row.last);
@@ -139,7 +140,7 @@ fn mark_row(
     }
     let r: Record = batch_row(7, row.batch, row.last);
     let u = emit(wp, wl, n, m, t, r);
-    if u.stop != 0 {
+    if u.stop.is_some() {
         return Turn { run: u, row };
     }
     let row = Row {
@@ -156,18 +157,17 @@ fn mark_all(
     n: usize,
     m: usize,
     t: Run,
-    rows: [Row; 8],
-    marked: [bool; 8],
+    batches: Batches,
     used: usize,
 ) -> Round
     requires { HasAreas n m wp.old wl.old × (used ≤ 8) }
-    ensures { (s : model.Run) → Starts n m wp.old wl.old t rows marked used s
-        → MarkedAll n m wp.new wl.new result s (undoing.mark_all (batches.open_batches s.log) s) }
+    ensures { (s : model.Run) → Starts n m wp.old wl.old t batches.rows batches.marked used s
+        → MarkedAll n m wp.new wl.new result s (undoing.mark_all (model_batches.open_batches s.log) s) }
 {
     let mut run = t;
-    let mut rows = rows;
+    let mut rows = batches.rows;
     for i in 0..used {
-        let x = mark_row(wp, wl, n, m, run, rows[i], marked[i]);
+        let x = mark_row(wp, wl, n, m, run, rows[i], batches.marked[i]);
         run = x.run;
         rows[i] = x.row;
     }
@@ -196,7 +196,7 @@ fn end_idle(
     used: usize,
 ) -> Run
     requires { HasAreas n m wp.old wl.old × (used ≤ 8) }
-    ensures { (s : model.Run) (bs : List batches.Batch) → Shows n m wp.old wl.old t s → rows ≡ eight_rows (map batches.row_of bs) → used ≡ length bs
+    ensures { (s : model.Run) (bs : List model_batches.Batch) → Shows n m wp.old wl.old t s → rows ≡ eight_rows (map model_batches.row_of bs) → used ≡ length bs
         → Shows n m wp.new wl.new result (undoing.end_idle bs s) }
 {
     let mut run = t;
@@ -249,7 +249,7 @@ fn undo_all(
     count: u32,
 ) -> Run
     requires { HasAreas n m wp.old wl.old }
-    ensures { (s : model.Run) (l : List Rec) (cs : List batches.Batch) → Shows n m wp.old wl.old t s → Grown l s.log → AllFit 1 l → Due l rows cs → Distinct cs
+    ensures { (s : model.Run) (l : List Rec) (cs : List model_batches.Batch) → Shows n m wp.old wl.old t s → Grown l s.log → AllFit 1 l → Due l rows cs → Distinct cs
         → Shows n m wp.new wl.new result (undoing.undo_all count cs s) }
 {
     let mut run = t;
@@ -267,24 +267,15 @@ fn undo_all(
 }
 
 // SETTLED: restart's marks, ends and undos of every open batch, by the rows that the log says and by which of their batches are marked.
-pub fn settle(
-    wp: &mut [u8],
-    wl: &mut [u8],
-    n: usize,
-    m: usize,
-    t: Run,
-    rows: [Row; 8],
-    marked: [bool; 8],
-) -> Run
-    requires { HasAreas n m wp.old wl.old × LowRows rows }
-    ensures { (s : model.Run) → Shows n m wp.old wl.old t s → rows ≡ eight_rows (map batches.row_of (batches.open_batches s.log))
-        → marked ≡ eight false (marks_of (batches.open_batches s.log)) → Holds s.log (batches.open_batches s.log) → AllFit 1 s.log
+pub fn settle(wp: &mut [u8], wl: &mut [u8], n: usize, m: usize, t: Run, batches: Batches) -> Run
+    requires { HasAreas n m wp.old wl.old × LowRows batches.rows }
+    ensures { (s : model.Run) → Shows n m wp.old wl.old t s → batches.rows ≡ eight_rows (map model_batches.row_of (model_batches.open_batches s.log))
+        → batches.marked ≡ eight false (marks_of (model_batches.open_batches s.log)) → Holds s.log (model_batches.open_batches s.log) → AllFit 1 s.log
         → Shows n m wp.new wl.new result (restart.settle s) }
 {
-    let used = used_rows(rows);
-    let count = pending_total(rows);
-    let x = mark_all(wp, wl, n, m, t, rows, marked, used);
-    let rows = x.rows;
-    let u = end_idle(wp, wl, n, m, x.run, rows, used);
-    undo_all(wp, wl, n, m, u, rows, count)
+    let used = used_rows(batches.rows);
+    let count = pending_total(batches.rows);
+    let x = mark_all(wp, wl, n, m, t, batches, used);
+    let u = end_idle(wp, wl, n, m, x.run, x.rows, used);
+    undo_all(wp, wl, n, m, u, x.rows, count)
 }

@@ -1,62 +1,54 @@
 -- `recovered`: the image is refused, or settled; the settling stops, or is stored.
 use mathlib.Core.Path.{refl, ◌∙◌}
 use native.Mathlib.Omega.{arith}
-use borrow.Author.Tests.{not-true, not-false}
-use Rattle.call_restart.specs.Settled.{settled_longer, settled_within, slots_refuse, pages_refuse}
-use Rattle.call_restart.specs.Recovered.{refused_so, done_so}
+use Rattle.std.specs.Prelude.{Ok, Err}
+use Rattle.std.proofs.lemmas.Result.{err_from_is_err_and}
+use Rattle.call_restart.specs.Redoing.{copy_redone}
+use Rattle.call_restart.specs.Settled.{settled_longer, settled_within, stop_refuse}
+use Rattle.call_restart.specs.Recovered.{done_so}
 use Rattle.call_restart.proofs.recovered.Goals as goal
 
-pub returns-then-not-v : goal.returns-then-not-v
-returns-then-not-v c =
-    let z = c.zeroed.ensures in
-    let y = c.readied-v in
-    refused_so _ _ _ (y.ensures.0.refuses (not-true _ c.if-not-v.true)) z.0 z.1 y.auto.wp y.auto.wl z.2 z.3
+pub returns-in_err-said : goal.returns-in_err-said
+returns-in_err-said c =
+    let p = err_from_is_err_and c.from_residual.result c.from_residual.ensures.1 in
+    rw (p.1, p.2) (c.in_err-said.ensures, refl)
+
+pub redone-requires : goal.redone-requires
+redone-requires c =
+    let q = c.requires in
+    ((c.copy.auto.dst ∙ q.0.0, q.0.1, q.1.2, q.1.3), (q.0.2, q.0.3), c.in_ok-said.ensures.within)
+
+pub returns-in_err-count : goal.returns-in_err-count
+returns-in_err-count c =
+    let p = err_from_is_err_and c.from_residual-in_err-count.result c.from_residual-in_err-count.ensures.1 in
+    rw (p.1, p.2) (copy_redone c.redone.new.wp (Err c.in_err-count.field-0.0) c.copy.ensures c.in_ok-said.ensures c.in_err-count.ensures.pages, refl)
 
 pub settle-u-requires : goal.settle-u-requires
 settle-u-requires c =
     let q = c.requires in
-    let y = c.readied-v in
-    let k = y.ensures.0.known (not-false _ c.if-not-v.false) in
-    ((y.auto.wp ∙ q.0.0, q.0.1, y.auto.wl ∙ q.0.2, q.0.3), k.low)
+    ((c.redone.auto.wp ∙ c.copy.auto.dst ∙ q.0.0, q.0.1, c.redone.auto.wl ∙ q.0.2, q.0.3), c.in_ok-said.ensures.low)
 
-pub returns-then-u-eq17 : goal.returns-then-u-eq17
-returns-then-u-eq17 c =
-    let z = c.zeroed-then-u-eq17.ensures in
-    let u = c.settle-u in
-    let y = c.readied-v in
-    let on = not-false _ c.if-not-v.false in
-    refused_so _ _ _ (slots_refuse (y.ensures.0.known on) (y.ensures.0.ready on) (y.ensures.1 on) _ u.ensures c.if-u-eq17.true) z.0 z.1 (u.auto.wp ∙ y.auto.wp) (u.auto.wl ∙ y.auto.wl) z.2 z.3
-
-pub returns-then-u-eq18 : goal.returns-then-u-eq18
-returns-then-u-eq18 c =
-    let z = c.zeroed-then-u-eq18.ensures in
-    let u = c.settle-u in
-    let y = c.readied-v in
-    let on = not-false _ c.if-not-v.false in
-    refused_so _ _ _ (pages_refuse (y.ensures.0.known on) (y.ensures.0.ready on) (y.ensures.1 on) _ u.ensures c.if-u-eq18.true) z.0 z.1 (u.auto.wp ∙ y.auto.wp) (u.auto.wl ∙ y.auto.wl) z.2 z.3
+pub returns-in-Some : goal.returns-in-Some
+returns-in-Some c =
+    let k = c.in_ok-said.ensures in
+    let y = copy_redone _ (Ok c.in_ok-count.count) c.copy.ensures k c.in_ok-count.ensures.pages in
+    (stop_refuse k y c.in_ok-count.ensures.log _ c.at.ensures c.settle-u.ensures _ c.in-Some.is, refl)
 
 pub relink-requires : goal.relink-requires
-relink-requires c = let q = c.requires in (c.settle-u.auto.wp ∙ c.readied-v.auto.wp ∙ q.0.0, q.0.1)
+relink-requires c = let q = c.requires in (c.settle-u.auto.wp ∙ c.redone.auto.wp ∙ c.copy.auto.dst ∙ q.0.0, q.0.1)
 
 pub store_slots-requires : goal.store_slots-requires
 store_slots-requires c =
     let q = c.requires in
     let u = c.settle-u in
-    let y = c.readied-v in
-    let on = not-false _ c.if-not-v.false in
-    let k = settled_longer (y.ensures.0.known on) (y.ensures.0.ready on) (y.ensures.1 on) _ u.ensures in
-    let w = settled_within (y.ensures.0.known on) (y.ensures.0.ready on) (y.ensures.1 on) _ u.ensures in
-    (k, omega (arith, w, q.0.3), omega (arith, w, q.1.2), omega (arith, w, u.auto.wl, y.auto.wl, q.0.2))
-
-pub shape_of-wp : goal.shape_of-wp
-shape_of-wp c = c.relink.auto.pages ∙ c.settle-u.auto.wp ∙ c.readied-v.auto.wp
-
-pub shape_of-wl : goal.shape_of-wl
-shape_of-wl c = c.settle-u.auto.wl ∙ c.readied-v.auto.wl
+    let k = c.in_ok-said.ensures in
+    let y = copy_redone _ (Ok c.in_ok-count.count) c.copy.ensures k c.in_ok-count.ensures.pages in
+    let l = settled_longer k y c.in_ok-count.ensures.log _ c.at.ensures u.ensures in
+    let w = settled_within k y c.in_ok-count.ensures.log _ c.at.ensures u.ensures in
+    (l, omega (arith, w, q.0.3), omega (arith, w, q.1.2), omega (arith, w, u.auto.wl, c.redone.auto.wl, q.0.2))
 
 pub returns : goal.returns
 returns c =
-    let u = c.settle-u in
-    let y = c.readied-v in
-    let on = not-false _ c.if-not-v.false in
-    done_so (y.ensures.0.known on) (y.ensures.0.ready on) (y.ensures.1 on) _ u.ensures c.relink.ensures _ c.if-u-eq17.false c.if-u-eq18.false c.used_rows-ended.ensures.0 c.store_slots.ensures refl c.idle_desk.ensures
+    let k = c.in_ok-said.ensures in
+    let y = copy_redone _ (Ok c.in_ok-count.count) c.copy.ensures k c.in_ok-count.ensures.pages in
+    done_so k y c.in_ok-count.ensures.log _ c.at.ensures c.settle-u.ensures c.relink.ensures _ c.in_default.is c.used_rows-ended.ensures.0 c.store_slots.ensures refl c.idle_desk.ensures

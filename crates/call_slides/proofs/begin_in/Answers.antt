@@ -9,7 +9,7 @@ use Rattle.def_layout.specs.declared.Row.{Row}
 use Rattle.def_layout.specs.declared.Desk.{Desk}
 use Rattle.def_layout.specs.Records.{kind_of}
 use Rattle.def_model.specs.Calls.{run_of}
-use Rattle.call_slides.specs.Given.{areas}
+use Rattle.call_slides.specs.Given.{areas, run_shown}
 use Rattle.call_slides.specs.Begin.{begin_full, begin_no_slots, begin_done}
 use Rattle.call_slides.proofs.begin_in.Goals as goal
 
@@ -33,5 +33,5 @@ returns c n budget wp sp sl g =
     let u = c.used_rows-i in
     let q = c.begin_has_slots.ensures in
     begin_done g (omega (arith, c.if-i-eq8.false, u.ensures)) budget _ _ c.note-u.result (rw (← u.ensures.0) (sym q ∙ not-false _ c.if-not-begin_has_slots.false-raw)) (add-one a.d.logged)
-    (c.note-u.ensures.2 n wp (run_of (areas g)) (g.known.shows sp)) refl
+    (c.note-u.ensures.2 n wp (run_of (areas g)) (run_shown g _ c.at-t.ensures)) refl
     (c.with_logged.ensures ∙ ap (λ (e : Desk). record { rows = e.rows; logged = c.note-u.result.logged; stored = e.stored }) (c.with_row-desk.ensures ∙ ap₂ (λ (i : ℕ) (y : Row). record { rows = set a.d.rows i y; logged = a.d.logged; stored = a.d.stored }) u.ensures.0 c.new_row.ensures))

@@ -1,32 +1,33 @@
 -- `delete_in`: refused by a check, or done.
-use borrow.Author.Tests.{not-true, not-false}
 use mathlib.Core.Path.{◌∙◌, sym, ap, refl}
 use native.Mathlib.Omega.{arith}
 use mathlib.Core.Bool.{not}
 use Rattle.def_layout.specs.Records.{kind_of}
 use Rattle.def_model.specs.Fit.{found}
 use Rattle.def_model.specs.Calls.{run_of, value_or}
-use Rattle.call_slides.specs.Given.{areas}
+use Rattle.call_slides.specs.Given.{areas, run_shown}
 use Rattle.call_slides.specs.Questions.{fetched_read}
 use Rattle.call_slides.specs.Changes.{delete_barred, delete_0}
+use Rattle.call_slides.proofs.Options.{missing_by, value_by}
 use Rattle.call_slides.proofs.delete_in.Goals as goal
 
-pub returns-then-not-u : goal.returns-then-not-u
-returns-then-not-u c budget sp sl g =
-    delete_barred g _ _ _ _ (ap not (c.is_there.ensures ∙ ap found (sym (fetched_read g _ _ c.fetched-f.ensures)))) (c.update_bar-u.ensures.1 _ _ sp sl g) (not-true _ c.if-not-u.true) budget _ c.refused.ensures
+pub returns-in-Err : goal.returns-in-Err
+returns-in-Err c budget sp sl g =
+    let f = c.fetched-f in
+    let e = sym (fetched_read g _ _ f.ensures) in
+    delete_barred g _ _ _ _ (missing_by f.result _ c.is_none.ensures ∙ ap (λ o. not (found o)) e) (c.in-Err.ensures.bars _ _ sp sl g) budget _ c.refused.ensures
 
 pub relink-requires : goal.relink-requires
-relink-requires c = let q = c.requires.0 in (c.remove_record-e.auto.wp ∙ q.0, q.1)
+relink-requires c = let q = c.requires.0 in (c.remove_record-u.auto.wp ∙ q.0, q.1)
 
 pub updated-requires : goal.updated-requires
-updated-requires c =
-    let u = c.update_bar-u in
-    (u.ensures.0, c.requires.3 u.result.row)
+updated-requires c = (c.in-Ok.ensures.low, c.requires.3 c.in-Ok.i)
 
 pub returns : goal.returns
 unfolding kind_of
 returns c budget sp sl g =
-    let u = c.update_bar-u in
-    let p = c.remove_record-e in
-    let e = fetched_read g _ _ c.fetched-f.ensures in
-    delete_0 g _ _ _ u.result.row budget p.result _ (omega (arith, c.ranges.k.fits)) (omega (arith, c.ranges.b.fits)) c.relink.ensures refl c.updated.ensures _ (c.value_in.ensures ∙ ap value_or (sym e)) (ap not (c.is_there.ensures ∙ ap found (sym e))) ((u.ensures.1 _ _ sp sl g).frees (not-false _ c.if-not-u.false)) (p.ensures (run_of (areas g)) (g.known.shows sp))
+    let f = c.fetched-f in
+    let p = c.remove_record-u in
+    let e = sym (fetched_read g _ _ f.ensures) in
+    delete_0 g _ _ _ _ budget p.result _ (omega (arith, c.ranges.k.fits)) (omega (arith, c.ranges.b.fits)) c.relink.ensures refl c.updated.ensures _ (c.unwrap_or.ensures ∙ value_by f.result ∙ ap value_or e)
+    (missing_by f.result _ c.is_none.ensures ∙ ap (λ o. not (found o)) e) (c.in-Ok.ensures.bars _ _ sp sl g) (p.ensures (run_of (areas g)) (run_shown g _ c.at-t.ensures))

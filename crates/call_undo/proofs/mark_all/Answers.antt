@@ -5,7 +5,7 @@ use Rattle.call_undo.specs.Marking.{marking_start, marking_on, marking_end}
 use Rattle.call_undo.proofs.mark_all.Goals as goal
 
 pub loop-i-init : goal.loop-i-init
-loop-i-init c = let a = c.args in (refl, refl, marking_start a.marked a.used)
+loop-i-init c = let a = c.args in (refl, refl, marking_start a.batches.marked a.used)
 
 pub mark_row-x-requires : goal.mark_row-x-requires
 mark_row-x-requires c =
