@@ -14,29 +14,18 @@ use Rattle.law_bytes.specs.Patch.{patch, then_patch, patch_whole}
 use Rattle.law_c.specs.RefusedByC.{empties, wrong_desk, desk_emptied, desk_kept, values_zeroed}
 use Rattle.call_reply.specs.declared.Reply.{Reply}
 use Rattle.call_reply.specs.Replies.{RepliesWhole}
-use Rattle.donzhikar.specs.declared.Request.{Request}
 
 -- ---- the lengths of desk and values
 
--- What they say of every call.
-pub record Asks (desk values : List ℕ) (q : Request) : Type 0 where
-  pub wrong : q.ok ≡ false → sizes_ok desk values ≡ false
-  pub sizes : q.ok ≡ true → (length desk ≡ 136) × (length values ≡ 8)
-  pub asks : q.ok ≡ true → (c : Call) (l : Lent) → answered (call c l q.desk) l ≡ c_call c l desk values
+-- What they say of every call, where both are right.
+pub record Asked (desk values : List ℕ) (d : Desk) : Type 0 where
+  pub sizes : (length desk ≡ 136) × (length values ≡ 8)
+  pub asks : (c : Call) (l : Lent) → answered (call c l d) l ≡ c_call c l desk values
 
-module _ (desk values : List ℕ) (q : Request) where
-  pub wrong_length : q.ok ≡ false → eqb (length desk) 136 && eqb (length values) 8 ≡ false → Asks desk values q
-  unfolding sizes_ok
-  wrong_length r e = record { wrong = λ t. e; sizes = λ t. clash (sym t ∙ r); asks = λ t. clash (sym t ∙ r) }
-
-  pub right_lengths : q.ok ≡ true → length desk ≡ 136 → length values ≡ 8 → q.desk ≡ read_desk desk → Asks desk values q
-  unfolding sizes_ok c_call returned_by
-  right_lengths r e f d =
-      record {
-        wrong = λ t. clash (sym r ∙ t);
-        sizes = λ t. (e, f);
-        asks = λ t c l. rw (c_call, sizes_ok, eq_true (length desk) 136 e, eq_true (length values) 8 f, d);
-      }
+pub right_lengths : (desk values : List ℕ) (d : Desk) → length desk ≡ 136 → length values ≡ 8 → d ≡ read_desk desk → Asked desk values d
+unfolding sizes_ok c_call returned_by
+right_lengths desk values d e f is =
+    record { sizes = (e, f); asks = λ c l. rw (c_call, sizes_ok, eq_true (length desk) 136 e, eq_true (length values) 8 f, is) }
 
 -- ---- a refusal for one of them
 
