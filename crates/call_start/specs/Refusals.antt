@@ -1,5 +1,6 @@
 -- What a formatting and a loading answer and leave: each refusal, in its order, and the register.
-use Rattle.std.specs.Prelude.{ℕ, suc, ◌/◌, ◌<◌, ◌≡◌, ◌≢◌, true, false, List, Result, Ok, Err, length, eqb, leb}
+use Rattle.std.specs.Prelude.{ℕ, suc, ◌/◌, ◌<◌, ◌≡◌, ◌≢◌, true, false, List, Ok, Err, length, eqb, leb}
+use Rattle.std.specs.Prelude as std
 use Rattle.std.proofs.Math.Path.{refl, ap, sym}
 use Rattle.std.proofs.Common.{◌∙◌, arith}
 use Rattle.std.proofs.Math.Option.{Option, none, some}
@@ -43,12 +44,12 @@ abbrev pub FirstBroken : (keys values : List ℕ) (pages : ℕ) → Option Refus
 FirstBroken ks vs pages o = (a : Areas) → length a.work.pages ≡ pages → first_broken (load_checks ks vs a) ≡ o
 
 -- The refusal that a judgement is, if it is one.
-abbrev pub refusal_in : {A : Type 0} → Result A Refusal → Option Refusal
+abbrev pub refusal_in : {A : Type 0} → std.Result A Refusal → Option Refusal
 refusal_in (Ok x) = none
 refusal_in (Err why) = some why
 
 -- The judgement of such a loading.
-abbrev pub Judges : {A : Type 0} → (keys values : List ℕ) (pages : ℕ) → Result A Refusal → Type 0
+abbrev pub Judges : {A : Type 0} → (keys values : List ℕ) (pages : ℕ) → std.Result A Refusal → Type 0
 Judges ks vs pages r = FirstBroken ks vs pages (refusal_in r)
 
 module _ (ks vs : List ℕ) (pages : ℕ) where

@@ -14,9 +14,10 @@ pub loop-x-preserved : goal.loop-x-preserved
 loop-x-preserved c =
     let a = c.args in
     let l = c.loop-x in
-    let b = c.hear_byte-now in
-    (omega (arith, l.invariant.0, b.ensures.0),
-      more_heard a.text.now l.x-index (stands (lent a.wp.now a.sp.now a.wl.now a.sl.now) a.h) (lent l.wp l.sp l.wl l.sl) (lent b.new.wp b.new.sp b.new.wl b.new.sl) l.now b.result a.out.now l.out b.new.out (omega arith) l.invariant.1 b.ensures.1)
+    let b = c.hear_byte-now in (
+      omega (arith, l.invariant.0, b.ensures.0),
+      more_heard a.text.now l.x-index (stands (lent a.wp.now a.sp.now a.wl.now a.sl.now) a.h) (lent l.wp l.sp l.wl l.sl) (lent b.new.wp b.new.sp b.new.wl b.new.sl) l.now b.result a.out.now l.out b.new.out (omega arith) l.invariant.1 b.ensures.1,
+    )
 
 pub returns : goal.returns
 returns c =
