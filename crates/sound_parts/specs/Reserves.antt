@@ -1,5 +1,5 @@
 -- The reserves on plain numbers: slots in use, free pages, pending updates and open batches; and which numbers those are.
-use Rattle.std.specs.Prelude.{◌≡◌, ℕ, suc, ◌+◌, ◌-◌, ◌*◌, ◌<◌, ◌≤◌, Bool, true, false, ◌&&◌, length, take, leb}
+use Rattle.std.specs.Prelude.{◌≡◌, ◌≢◌, ℕ, suc, ◌+◌, ◌-◌, ◌*◌, ◌<◌, ◌≤◌, Bool, true, false, ◌&&◌, length, take, leb}
 use Rattle.std.proofs.Math.Path.{refl, ap, sym}
 use Rattle.std.proofs.Common.{◌∙◌, add-one, length-take}
 use native.Mathlib.Omega.{arith}
@@ -7,6 +7,7 @@ use mathlib.Core.List.{List, [], ◌∷◌}
 use Rattle.std.proofs.Math.Seq.{take-nil}
 use Rattle.def_base.specs.Tests.{le_true, le_false}
 use Rattle.def_layout.specs.Pages.{Page, at}
+use Rattle.def_layout.specs.declared.page.PageKind.TheVariants.{Map}
 use Rattle.def_layout.specs.PageBytes.{page_fields}
 use Rattle.def_layout.specs.Sizes.{page_size}
 use Rattle.def_layout.specs.Records.{Rec}
@@ -16,7 +17,8 @@ use Rattle.def_model.specs.TreeRules.{ones, free_pages}
 use Rattle.def_model.specs.Sound.{reserve, reserves_ok, update_slots, update_pages}
 use Rattle.law_bytes.specs.Pieces.{read_all_length}
 use Rattle.codec_page.specs.declared.Page as program
-use Rattle.codec_page.specs.Typed.{typed, used_marks_node, used_marks_map}
+use Rattle.codec_page.specs.Typed.{typed, used_marks_node}
+use Rattle.codec_page.specs.Shown.{typed_marks}
 use Rattle.law_bytes.specs.PageAreas.{pages_of}
 use Rattle.codec_map.specs.Turns.{marks}
 
@@ -70,13 +72,12 @@ module _ (n : ℕ) (b : List ℕ) (x : program.Page) (e : typed x ≡ at (pages_
   free_by m q = rw (read_all_length page_size page_fields n b) (ap (λ (l : List Bool). n - ones (take n l)) (ap (λ (y : Page). y.marks) (sym e) ∙ q))
 
   -- A page 0 that is not the map marks nothing.
-  pub free_all : x.kind < 3 → n ≡ free_pages (pages_of n b)
+  pub free_all : x.kind ≢ Map → n ≡ free_pages (pages_of n b)
   unfolding typed ones
   free_all k = let z : n - 0 ≡ n = omega arith in sym (free_by [] (used_marks_node x.entries x.kind k) ∙ rw (take-nil {A = Bool} n) z)
 
-  pub free_rest : (u : ℕ) → 3 ≤ x.kind → u ≡ ones (take n (marks x.entries)) → n - u ≡ free_pages (pages_of n b)
-  unfolding typed
-  free_rest u k eu = ap (λ (i : ℕ). n - i) eu ∙ sym (free_by (marks x.entries) (used_marks_map x.entries x.kind k))
+  pub free_rest : (u : ℕ) → x.kind ≡ Map → u ≡ ones (take n (marks x.entries)) → n - u ≡ free_pages (pages_of n b)
+  free_rest u k eu = ap (λ (i : ℕ). n - i) eu ∙ sym (free_by (marks x.entries) (typed_marks x k))
 
 -- No more pages are used than there are.
 ones_le : (m : List Bool) → ones m ≤ length m

@@ -23,6 +23,7 @@ ghost use Rattle.sound_parts.specs.Reserves.{reserves_by, update_slots_by, updat
 use codec_bytes::{get32, is_zero, same_part};
 use codec_map::count_used;
 use codec_page::{nth_page, page_ok};
+use def_layout::page::PageKind;
 use def_layout::{Desk, PAGE_SIZE, Row, SLOT_SIZE, page};
 
 fn page_at_ok(pages: &[u8], n: usize, p: usize, working: bool) -> bool
@@ -136,9 +137,8 @@ pub fn free_pages(pages: &[u8], n: usize) -> usize
     ensures { (result ≡ free_pages (pages_of n pages.now)) × (result ≤ n) }
 {
     let x = nth_page(pages, n, 0);
-    if x.kind < 3 {
-        return n;
+    match x.kind {
+        PageKind::Map => n - count_used(x.entries, n),
+        _ => n,
     }
-    let es = x.entries;
-    n - count_used(es, n)
 }
