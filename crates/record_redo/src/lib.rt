@@ -26,6 +26,11 @@ use record_fit::fits;
 use record_leaf::slide_made;
 use record_pages::{page_at, put_page};
 
+// The kinds that change no page and stand in most logs, by their numbers in 01's table.
+const BEGIN: u32 = 1;
+
+const COMMIT: u32 = 6;
+
 // The record that 144 bytes show, its count, which has four bits, cut to fourteen. Whether they are a record's was judged before: of others nothing is
 // said.
 fn record_in(s: &[u8]) -> Record
@@ -131,7 +136,8 @@ fn redo_slide(pages: &mut [u8], n: usize, log: &[u8], m: usize, i: usize) -> Opt
     if !slide_made(b, kind, own, key, second) {
         return None;
     }
-    Some(1)
+    let applied = 1;
+    Some(applied)
 }
 
 // The record in slot i, number i + 1: at once where that can be, else the long way. A begin and a commit change no page.
@@ -142,7 +148,7 @@ fn redo_slot(pages: &mut [u8], n: usize, log: &[u8], m: usize, i: usize) -> Opti
 {
     let s = &log[SLOT_SIZE * i..SLOT_SIZE * i + SLOT_SIZE];
     let kind = get32(s, slot::FRONT_AT) / slot::KIND_UNIT;
-    if kind == 1 || kind == 6 {
+    if kind == BEGIN || kind == COMMIT {
         return Some(0);
     }
     if let Some(count) = redo_slide(pages, n, log, m, i) {

@@ -14,6 +14,9 @@ returns-in_err-applied-clause-answer c xs q h g e =
     rw c.from_residual.ensures
     (turn_off c.redo_slot.new.pages l.i l.count _ c.in_err-applied.ensures.answer xs q g (omega (arith, e, c.loop-i-test.true)) (l.invariant.turned xs q h g e) refl)
 
+pub copy_slot-requires : goal.copy_slot-requires
+copy_slot-requires c = (search rules, search rules, omega arith)
+
 pub loop-i-preserved : goal.loop-i-preserved
 loop-i-preserved c =
     let l = c.loop-i in

@@ -7,17 +7,17 @@ use Rattle.def_layout.specs.Sizes.{slot_size}
 use Rattle.def_model.specs.Change.{changes, shape}
 use Rattle.record_redo.specs.AtOnce.{as_part, no_page}
 use Rattle.record_redo.specs.Logs.{long_way}
-use Rattle.record_redo.proofs.redo_slot.Goals.{then-kind-eq1-via-then-kind-eq1, then-kind-eq1-via-else-kind-eq1+then-kind-eq6}
+use Rattle.record_redo.proofs.redo_slot.Goals.{then-kind-eq-BEGIN-via-then-kind-eq-BEGIN, then-kind-eq-BEGIN-via-else-kind-eq-BEGIN+then-kind-eq-COMMIT}
 use Rattle.record_redo.proofs.redo_slot.Goals as goal
 
-pub returns-then-kind-eq1-clause-answer : goal.returns-then-kind-eq1-clause-answer
+pub returns-then-kind-eq-BEGIN-clause-answer : goal.returns-then-kind-eq-BEGIN-clause-answer
 unfolding kind_of
-returns-then-kind-eq1-clause-answer c xs own q shows stands few keeps =
+returns-then-kind-eq-BEGIN-clause-answer c xs own q shows stands few keeps =
     let a = c.args in
     let none : shape (kind_of (c.get32-kind.result / 268435456)) ≡ changes false false false false =
-    elim c.then-kind-eq1.branch [
-      | then-kind-eq1-via-then-kind-eq1 w ↦ ap (λ (k : ℕ). shape (kind_of k)) w.if-kind-eq1.true
-      | then-kind-eq1-via-else-kind-eq1+then-kind-eq6 w ↦ ap (λ (k : ℕ). shape (kind_of k)) w.if-kind-eq6.true
+    elim c.then-kind-eq-BEGIN.branch [
+      | then-kind-eq-BEGIN-via-then-kind-eq-BEGIN w ↦ ap (λ (k : ℕ). shape (kind_of k)) w.if-kind-eq-BEGIN.true
+      | then-kind-eq-BEGIN-via-else-kind-eq-BEGIN+then-kind-eq-COMMIT w ↦ ap (λ (k : ℕ). shape (kind_of k)) w.if-kind-eq-COMMIT.true
     ]
     in
     no_page a.n a.m a.i _ a.pages.now a.log.now c.requires.1 (as_part slot_size a.i a.log.now 0 c.get32-kind.ensures) none xs own q shows stands keeps
