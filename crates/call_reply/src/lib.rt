@@ -8,7 +8,7 @@ use def_layout::Desk;
 use def_model::{Answer, Refusal};
 
 // An answer, and the desk that goes with it.
-#[derive(Clone, Copy)]
+#[derive(Clone, Copy, Debug, PartialEq, Eq)]
 pub struct Reply {
     pub answer: Answer,
     pub desk: Desk,

@@ -1,47 +1,39 @@
--- A column of keys that is looked through from the front.
-use Rattle.std.specs.Prelude.{ℕ, suc, ◌+◌, ◌-◌, ◌<◌, ◌≤◌, ◌≡◌, Bool, true, false, ◌&&◌, ◌||◌, List, [], ◌∷◌, length, get_or, drop, leb, eqb}
+-- A column of keys, as the library looks through it.
+use Rattle.std.specs.Prelude.{ℕ, zero, suc, ◌+◌, ◌<◌, ◌≤◌, ◌≡◌, Bool, true, false, ◌&&◌, ◌||◌, List, [], ◌∷◌, length, get_or, leb, ltb, eqb}
 use Rattle.std.proofs.Math.Path.{refl}
-use Rattle.std.proofs.Common.{sym, ap, ◌∙◌, arith, drop_of_length-le, drop-cons}
-use Rattle.std.proofs.Math.Numerals.{add-one}
-use Rattle.std.proofs.Math.Dec.{leb-zero}
-use Rattle.def_base.specs.Tests.{any, le_true, le_false, eq_true, neq_false}
+use Rattle.std.proofs.Common.{sym, ap, subst, ◌∙◌, add-one, arith}
+use Rattle.std.specs.List.{list_any, IsAllAdjacentAnswer}
+use Rattle.def_base.specs.Tests.{any, le_true, le_false, true_lt, false_lt}
 use Rattle.def_model.specs.Loading.{keys_rise}
 
-abbrev pub is_zero : ℕ → Bool
-is_zero k = eqb k 0
-
-module _ (ks : List ℕ) (i : ℕ) (h : i < length ks) where
-  zero_step : any is_zero (drop i ks) ≡ is_zero (get_or ks i 0) || any is_zero (drop (i + 1) ks)
-  unfolding any
-  zero_step = rw (drop-cons ks i 0, add-one i) refl
-
-  pub zero_here : get_or ks i 0 ≡ 0 → any is_zero (drop i ks) ≡ true
-  zero_here e = zero_step ∙ rw e refl
-
-  pub zero_past : 0 < get_or ks i 0 → any is_zero (drop i ks) ≡ any is_zero (drop (i + 1) ks)
-  zero_past p = zero_step ∙ rw (neq_false {a = get_or ks i 0} {b = 0} (λ e. omega arith)) refl
-
-  rise_step : (from : ℕ) → keys_rise from (drop i ks) ≡ leb from (get_or ks i 0) && keys_rise (suc (get_or ks i 0)) (drop (i + 1) ks)
-  unfolding keys_rise
-  rise_step from = rw (drop-cons ks i 0, add-one i) refl
-
-  -- After the key before.
-  pub rise_broken : get_or ks i 0 ≤ get_or ks (i - 1) 0 → keys_rise (suc (get_or ks (i - 1) 0)) (drop i ks) ≡ false
-  rise_broken p = rise_step (suc (get_or ks (i - 1) 0)) ∙ rw (le_false (suc (get_or ks (i - 1) 0)) (get_or ks i 0) (omega arith)) refl
-
-  pub rise_past : get_or ks (i - 1) 0 < get_or ks i 0 → keys_rise (suc (get_or ks (i - 1) 0)) (drop i ks) ≡ keys_rise (suc (get_or ks (i + 1 - 1) 0)) (drop (i + 1) ks)
-  rise_past p = let e : i + 1 - 1 ≡ i = omega arith in rise_step (suc (get_or ks (i - 1) 0)) ∙ rw (le_true (suc (get_or ks (i - 1) 0)) (get_or ks i 0) p, e) refl
-
-pub zero_none : (ks : List ℕ) (i : ℕ) → length ks ≤ i → any is_zero (drop i ks) ≡ false
+-- Whether a key passes a test.
+pub any_listed : (test : ℕ → Bool) (ks : List ℕ) → list_any test ks ≡ any test ks
 unfolding any
-zero_none ks i h = ap (any is_zero) (drop_of_length-le ks h)
+any_listed test [] = refl
+any_listed test (k ∷ ks) = ap (λ b. test k || b) (any_listed test ks)
 
-pub rise_end : (ks : List ℕ) (i from : ℕ) → length ks ≤ i → keys_rise from (drop i ks) ≡ true
+-- The keys from one on, of which the first is `from` at least.
+rise_from : (from : ℕ) (ks : List ℕ) → (0 < length ks → from ≤ get_or ks 0 0) → ((i : ℕ) → suc i < length ks → get_or ks i 0 < get_or ks (suc i) 0) → keys_rise from ks ≡ true
 unfolding keys_rise
-rise_end ks i from h = ap (keys_rise from) (drop_of_length-le ks h)
+rise_from from [] f h = refl
+rise_from from (k ∷ ks) f h = rw (le_true from k (f (omega arith))) (rise_from (suc k) ks (λ l. h 0 (omega arith)) (λ i l. h (suc i) (omega arith)))
 
--- The first key may be any.
-pub rise_first : (ks : List ℕ) → keys_rise 0 ks ≡ keys_rise (suc (get_or ks 0 0)) (drop 1 ks)
+both_false : (b : Bool) → b && false ≡ false
+both_false true = refl
+both_false false = refl
+
+-- Two neighbours that do not rise.
+falls_from : (from : ℕ) (ks : List ℕ) (i : ℕ) → suc i < length ks → get_or ks (suc i) 0 ≤ get_or ks i 0 → keys_rise from ks ≡ false
 unfolding keys_rise
-rise_first [] = refl
-rise_first (k ∷ ks) = rw (leb-zero k) refl
+falls_from from [] i l h = absurd (omega (arith, l))
+falls_from from (k ∷ ks) (suc i) l h = rw (falls_from (suc k) ks i (omega (arith, l)) h) (both_false (leb from k))
+falls_from from (k ∷ []) zero l h = absurd (omega (arith, l))
+falls_from from (k ∷ m ∷ ks) zero l h = rw (le_false (suc k) m (omega (arith, h))) (both_false (leb from k))
+
+-- A column whose neighbours were compared.
+pub rise_is : (ks : List ℕ) (r : Bool) → IsAllAdjacentAnswer (λ x y b. b ≡ ltb x y) ks r → r ≡ keys_rise 0 ks
+rise_is ks true h =
+    sym (rise_from 0 ks (λ l. omega arith) (λ i l. true_lt _ _ (subst (λ n. ltb (get_or ks i 0) (get_or ks n 0) ≡ true) (add-one i) (sym (h i 0 (omega (arith, l)))))))
+rise_is ks false h =
+    let (i, l, f) = h in
+    sym (falls_from 0 ks i (omega (arith, l)) (false_lt _ _ (subst (λ n. ltb (get_or ks i 0) (get_or ks n 0) ≡ false) (add-one i) (sym (f 0)))))

@@ -1,9 +1,10 @@
 -- What a formatting and a loading answer and leave: each refusal, in its order, and the register.
-use Rattle.std.specs.Prelude.{ℕ, suc, ◌/◌, ◌<◌, ◌≡◌, ◌≢◌, Bool, true, false, List, length, eqb, leb}
+use Rattle.std.specs.Prelude.{ℕ, suc, ◌/◌, ◌<◌, ◌≡◌, ◌≢◌, true, false, List, Ok, Err, length, eqb, leb}
+use Rattle.std.specs.Prelude as std
 use Rattle.std.proofs.Math.Path.{refl, ap, sym}
-use Rattle.std.proofs.Common.{ap₂, ◌∙◌, arith}
-use Rattle.std.proofs.Math.Option.{none, some}
-use Rattle.def_base.specs.Tests.{pick, any, eq_true, neq_false}
+use Rattle.std.proofs.Common.{◌∙◌, arith}
+use Rattle.std.proofs.Math.Option.{Option, none, some}
+use Rattle.def_base.specs.Tests.{any, eq_true, neq_false}
 use Rattle.def_layout.specs.declared.Entry.{Entry}
 use Rattle.def_layout.specs.declared.Desk.{Desk}
 use Rattle.def_layout.specs.Desks.{empty_desk}
@@ -38,15 +39,21 @@ started_0 c es l after d budget r e f a k =
 
 -- ---- the columns judged
 
--- The first refusal of a loading into so many pages, if any.
-abbrev pub Judges : (keys values : List ℕ) (pages : ℕ) (ok : Bool) (why : Refusal) → Type 0
-Judges ks vs pages ok why = (a : Areas) → length a.work.pages ≡ pages → first_broken (load_checks ks vs a) ≡ pick ok none (some why)
+-- The first broken check of a loading into so many pages.
+abbrev pub FirstBroken : (keys values : List ℕ) (pages : ℕ) → Option Refusal → Type 0
+FirstBroken ks vs pages o = (a : Areas) → length a.work.pages ≡ pages → first_broken (load_checks ks vs a) ≡ o
+
+-- The refusal that a judgement is, if it is one.
+abbrev pub refusal_in : {A : Type 0} → std.Result A Refusal → Option Refusal
+refusal_in (Ok x) = none
+refusal_in (Err why) = some why
+
+-- The judgement of such a loading.
+abbrev pub Judges : {A : Type 0} → (keys values : List ℕ) (pages : ℕ) → std.Result A Refusal → Type 0
+Judges ks vs pages r = FirstBroken ks vs pages (refusal_in r)
 
 module _ (ks vs : List ℕ) (pages : ℕ) where
-  pub told : {ok : Bool} {why w : Refusal} → ok ≡ false → why ≡ w → Judges ks vs pages false w → Judges ks vs pages ok why
-  told e f j a n = j a n ∙ sym (ap₂ (λ b q. pick b none (some q)) e f)
-
-  pub judge_8 : length ks ≢ length vs → Judges ks vs pages false ColumnsDiffer
+  pub judge_8 : length ks ≢ length vs → FirstBroken ks vs pages (some ColumnsDiffer)
   unfolding load_checks first_broken
   judge_8 e a n = rw (neq_false e) refl
 
@@ -54,27 +61,27 @@ module _ (ks vs : List ℕ) (pages : ℕ) where
     s : eqb (length ks) (length vs) ≡ true
     s = eq_true (length ks) (length vs) same
 
-    pub judge_7 : true ≡ any (λ k. eqb k 0) ks → Judges ks vs pages false ZeroKey
+    pub judge_7 : true ≡ any (λ k. eqb k 0) ks → FirstBroken ks vs pages (some ZeroKey)
     unfolding load_checks first_broken
     judge_7 e a n = rw (s, sym e) refl
 
     module _ (no_zero : false ≡ any (λ k. eqb k 0) ks) where
-      pub judge_9 : false ≡ keys_rise 0 ks → Judges ks vs pages false NotRising
+      pub judge_9 : false ≡ keys_rise 0 ks → FirstBroken ks vs pages (some NotRising)
       unfolding load_checks first_broken
       judge_9 e a n = rw (s, sym no_zero, sym e) refl
 
       module _ (rise : true ≡ keys_rise 0 ks) where
-        pub judge_18 : false ≡ leb (suc (loaded_count (length ks))) pages → Judges ks vs pages false PagesShort
+        pub judge_18 : false ≡ leb (suc (loaded_count (length ks))) pages → FirstBroken ks vs pages (some PagesShort)
         unfolding load_checks first_broken
         judge_18 e a n = rw (s, sym no_zero, sym rise, n, sym e) refl
 
-        pub judge_0 : (why : Refusal) → true ≡ leb (suc (loaded_count (length ks))) pages → Judges ks vs pages true why
+        pub judge_0 : true ≡ leb (suc (loaded_count (length ks))) pages → FirstBroken ks vs pages none
         unfolding load_checks first_broken
-        judge_0 why e a n = rw (s, sym no_zero, sym rise, n, sym e) refl
+        judge_0 e a n = rw (s, sym no_zero, sym rise, n, sym e) refl
 
 -- ---- the call
 
-module _ (ks vs wp sp wl sl : List ℕ) (lens : lengths_ok (lent wp sp wl sl) ≡ true) (ok : Bool) (why : Refusal) (judges : Judges ks vs (length wp / 128) ok why) where
+module _ (ks vs wp sp wl sl : List ℕ) (lens : lengths_ok (lent wp sp wl sl) ≡ true) where
   abbrev l : Lent
   l = lent wp sp wl sl
 
@@ -82,16 +89,14 @@ module _ (ks vs wp sp wl sl : List ℕ) (lens : lengths_ok (lent wp sp wl sl) �
   unfolding read_areas
   count = read_work_length (length wp / 128) wp (lengths_numbers wp sp wl sl lens).0
 
-  first : first_broken (load_checks ks vs (read_areas l)) ≡ pick ok none (some why)
-  first = judges (read_areas l) count
-
-  pub load_refused : (d : Desk) (budget : ℕ) (r : Reply) → ok ≡ false → r.answer ≡ Refused why → r.desk ≡ empty_desk → Replies (load ks vs) l d budget r l
+  pub load_refused : (why : Refusal) → FirstBroken ks vs (length wp / 128) (some why) → (d : Desk) (budget : ℕ) (r : Reply) → r.answer ≡ Refused why → r.desk ≡ empty_desk
+      → Replies (load ks vs) l d budget r l
   unfolding checks start_checks refused refused_work refused_desk
-  load_refused d budget r e = left_with (load ks vs) wp sp wl sl d lens empty_desk (Refused why) budget r (broken_refused (load ks vs) (read_areas l) d why (first ∙ ap (λ b. pick b none (some why)) e))
+  load_refused why judges d budget r = left_with (load ks vs) wp sp wl sl d lens empty_desk (Refused why) budget r (broken_refused (load ks vs) (read_areas l) d why (judges (read_areas l) count))
 
-  module _ (passes : ok ≡ true) where
+  module _ (passes : FirstBroken ks vs (length wp / 128) none) where
     passed : first_broken (load_checks ks vs (read_areas l)) ≡ none
-    passed = first ∙ ap (λ b. pick b none (some why)) passes
+    passed = passes (read_areas l) count
 
     -- What the loader asks of the columns.
     pub load_asks : Columns ks vs × (loaded_count (length ks) < length wp / 128) × (keys_rise 0 ks ≡ true)

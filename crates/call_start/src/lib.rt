@@ -1,8 +1,7 @@
 // Formatting and loading, on lent areas of any lengths and any bytes.
 #![tactic(auto)]
 
-ghost use Rattle.std.specs.Prelude.{◌≡◌, true, false, [], ◌/◌, ◌≤◌, ◌<◌, length, eqb};
-ghost use Rattle.def_base.specs.Tests.{any};
+ghost use Rattle.std.specs.Prelude.{◌≡◌, true, [], ◌/◌, ◌≤◌, ◌<◌, length};
 ghost use Rattle.def_layout.specs.Pages.{map_bits};
 ghost use Rattle.def_layout.specs.Sizes.{page_size};
 ghost use Rattle.def_model.specs.Loading.{columns, keys_rise, loaded_count};
@@ -70,66 +69,31 @@ pub fn format_within(
     }
 }
 
-// Whether a key is 0.
-fn has_zero(keys: &[u32]) -> bool
-    ensures { result ≡ any (λ k. eqb k 0) keys.now }
-{
-    for i in 0..keys.len() {
-        if keys[i] == 0 {
-            return true;
-        }
-    }
-    false
-}
-
 // Whether each key is above the one before.
 fn rising(keys: &[u32]) -> bool
     ensures { result ≡ keys_rise 0 keys.now }
 {
-    let mut i = 1;
-    while i < keys.len() {
-        if keys[i] <= keys[i - 1] {
-            return false;
-        }
-        i += 1;
-    }
-    true
-}
-
-// Whether a loading may go on, or why not.
-#[derive(Clone, Copy)]
-struct Verdict {
-    ok: bool,
-    why: Refusal,
-}
-
-fn no(why: Refusal) -> Verdict
-    ensures { (result.ok ≡ false) × (result.why ≡ why) }
-{
-    Verdict { ok: false, why }
+    keys.is_sorted_by(|a, b| *a < *b)
 }
 
 // Refusals 8, 7, 9 and 18, in this order.
-fn judged(keys: &[u32], values: &[u32], pages: usize) -> Verdict
+fn judged(keys: &[u32], values: &[u32], pages: usize) -> Result<(), Refusal>
     requires { pages ≤ map_bits }
-    ensures { Judges keys.now values.now pages result.ok result.why }
+    ensures { Judges keys.now values.now pages result }
 {
     if keys.len() != values.len() {
-        return no(Refusal::ColumnsDiffer);
+        return Err(Refusal::ColumnsDiffer);
     }
-    if has_zero(keys) {
-        return no(Refusal::ZeroKey);
+    if keys.contains(&0) {
+        return Err(Refusal::ZeroKey);
     }
     if !rising(keys) {
-        return no(Refusal::NotRising);
+        return Err(Refusal::NotRising);
     }
     if !tree_fits(keys.len(), pages) {
-        return no(Refusal::PagesShort);
+        return Err(Refusal::PagesShort);
     }
-    Verdict {
-        ok: true,
-        why: Refusal::PagesShort,
-    }
+    Ok(())
 }
 
 // A register of the columns' records: as many stores as the budget has.
@@ -149,9 +113,7 @@ pub fn load_within(
     if !lengths_ok(wp, sp, wl, sl) {
         return refused(Refusal::Lengths, desk);
     }
-    let v = judged(keys, values, wp.len() / PAGE_SIZE);
-    if !v.ok {
-        let why = v.why;
+    if let Err(why) = judged(keys, values, wp.len() / PAGE_SIZE) {
         return refused(why, desk);
     }
     start_loaded(wp, sp, wl, sl, keys, values, budget);

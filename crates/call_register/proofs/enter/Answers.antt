@@ -3,8 +3,14 @@ use borrow.Author.Tests.{not-true, not-false}
 use mathlib.Core.Path.{◌∙◌, sym, refl}
 use native.Mathlib.Omega.{arith}
 use Rattle.area_lengths.specs.Lent.{lengths_numbers}
-use Rattle.call_register.specs.Entered.{entered_1, entered_2, entered_11, entered_0}
+use Rattle.call_register.specs.Entered.{barred_1, barred_2, barred_11, entered}
 use Rattle.call_register.proofs.enter.Goals as goal
+
+pub returns-then-not-lengths_ok : goal.returns-then-not-lengths_ok
+returns-then-not-lengths_ok c = barred_1 _ _ _ _ _ _ (sym c.lengths_ok.ensures ∙ not-true _ c.if-not-lengths_ok.true-raw)
+
+pub returns-then-p-pages : goal.returns-then-p-pages
+returns-then-p-pages c = barred_2 _ _ _ _ _ _ (sym c.lengths_ok.ensures ∙ not-false _ c.if-not-lengths_ok.false-raw) c.if-p-pages.true
 
 pub standing_of-standing-requires : goal.standing_of-standing-requires
 standing_of-standing-requires c =
@@ -15,16 +21,12 @@ standing_of-standing-requires c =
 pub returns-then-not-standing : goal.returns-then-not-standing
 returns-then-not-standing c =
     let a = c.args in
-    entered_11 a.wp.now a.sp.now a.wl.now a.sl.now a.d a.p _ (sym c.lengths_ok.ensures ∙ not-false _ c.if-not-lengths_ok.false-raw) (omega (arith, c.if-p-pages.false)) c.barred-then-not-standing.ensures
+    barred_11 a.wp.now a.sp.now a.wl.now a.sl.now a.d a.p (sym c.lengths_ok.ensures ∙ not-false _ c.if-not-lengths_ok.false-raw) (omega (arith, c.if-p-pages.false))
     (sym (c.standing_of-standing.ensures.ok a.sp.now) ∙ not-true _ c.if-not-standing.true)
 
 pub returns : goal.returns
 returns c =
     let a = c.args in
-    entered_0 a.wp.now a.sp.now a.wl.now a.sl.now a.d a.p _ (sym c.lengths_ok.ensures ∙ not-false _ c.if-not-lengths_ok.false-raw) (omega (arith, c.if-p-pages.false)) refl refl refl c.standing_of-standing.ensures (not-false _ c.if-not-standing.false)
-
-pub returns-then-not-lengths_ok : goal.returns-then-not-lengths_ok
-returns-then-not-lengths_ok c = entered_1 _ _ _ _ _ _ _ c.barred.ensures (sym c.lengths_ok.ensures ∙ not-true _ c.if-not-lengths_ok.true-raw)
-
-pub returns-then-p-pages : goal.returns-then-p-pages
-returns-then-p-pages c = entered_2 _ _ _ _ _ _ _ (sym c.lengths_ok.ensures ∙ not-false _ c.if-not-lengths_ok.false-raw) c.barred-then-p-pages.ensures c.if-p-pages.true
+    let o = not-false _ c.if-not-standing.false in
+    entered a.wp.now a.sp.now a.wl.now a.sl.now a.d a.p (sym c.lengths_ok.ensures ∙ not-false _ c.if-not-lengths_ok.false-raw) (omega (arith, c.if-p-pages.false)) _ refl refl
+    (sym (c.standing_of-standing.ensures.ok a.sp.now) ∙ o) (c.standing_of-standing.ensures.known o)

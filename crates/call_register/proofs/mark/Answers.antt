@@ -1,10 +1,9 @@
 -- `mark`: refused at the entry, or the call on a sound register.
-use borrow.Author.Tests.{not-true, not-false}
 use mathlib.Core.Path.{refl}
 use Rattle.call_register.proofs.mark.Goals as goal
 
-pub returns-then-not-e : goal.returns-then-not-e
-returns-then-not-e c budget = c.enter-e.ensures.refuses (not-true _ c.if-not-e.true) _ budget _ c.refused.ensures refl
+pub returns-in-Err : goal.returns-in-Err
+returns-in-Err c budget = c.in-Err.ensures _ budget _ c.refused.ensures refl
 
-pub returns : goal.returns
-returns c budget = c.mark_in.ensures _ _ budget _ _ _ _ _ (c.enter-e.ensures.given (not-false _ c.if-not-e.false))
+pub returns-in-Ok : goal.returns-in-Ok
+returns-in-Ok c budget = c.mark_in.ensures _ _ budget _ _ _ _ _ c.in-Ok.ensures.given

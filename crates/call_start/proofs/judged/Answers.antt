@@ -2,35 +2,33 @@
 use borrow.Author.Tests.{not-true, not-false}
 use native.Mathlib.Omega.{arith}
 use mathlib.Core.Path.{sym, ◌∙◌}
-use Rattle.def_model.specs.declared.Refusal.TheVariants.{PagesShort}
-use Rattle.call_start.specs.Refusals.{told, judge_8, judge_7, judge_9, judge_18, judge_0}
+use Rattle.call_start.specs.Column.{any_listed}
+use Rattle.call_start.specs.Refusals.{judge_8, judge_7, judge_9, judge_18, judge_0}
 use Rattle.call_start.proofs.judged.Goals as goal
 
 pub returns-then-keys-values : goal.returns-then-keys-values
 returns-then-keys-values c =
     let a = c.args in
-    told a.keys.now a.values.now a.pages c.no.ensures.0 c.no.ensures.1 (judge_8 a.keys.now a.values.now a.pages (λ e. omega arith))
+    judge_8 a.keys.now a.values.now a.pages (λ e. omega arith)
 
-pub returns-then-has_zero : goal.returns-then-has_zero
-returns-then-has_zero c =
+pub returns-then-contains : goal.returns-then-contains
+returns-then-contains c =
     let a = c.args in
-    told a.keys.now a.values.now a.pages c.no-then-has_zero.ensures.0 c.no-then-has_zero.ensures.1 (judge_7 a.keys.now a.values.now a.pages (omega arith) (sym c.if-has_zero.true ∙ c.has_zero.ensures))
+    judge_7 a.keys.now a.values.now a.pages (omega arith) (sym c.if-contains.true ∙ c.contains.ensures.value ∙ any_listed _ a.keys.now)
 
 pub returns-then-not-rising : goal.returns-then-not-rising
 returns-then-not-rising c =
     let a = c.args in
-    told a.keys.now a.values.now a.pages c.no-then-not-rising.ensures.0 c.no-then-not-rising.ensures.1
-    (judge_9 a.keys.now a.values.now a.pages (omega arith) (sym c.if-has_zero.false ∙ c.has_zero.ensures) (sym (not-true _ c.if-not-rising.true-raw) ∙ c.rising.ensures))
+    judge_9 a.keys.now a.values.now a.pages (omega arith) (sym c.if-contains.false ∙ c.contains.ensures.value ∙ any_listed _ a.keys.now) (sym (not-true _ c.if-not-rising.true-raw) ∙ c.rising.ensures)
 
 pub returns-then-not-tree_fits : goal.returns-then-not-tree_fits
 returns-then-not-tree_fits c =
     let a = c.args in
-    told a.keys.now a.values.now a.pages c.no-then-not-tree_fits.ensures.0 c.no-then-not-tree_fits.ensures.1
-    (judge_18 a.keys.now a.values.now a.pages (omega arith) (sym c.if-has_zero.false ∙ c.has_zero.ensures) (sym (not-false _ c.if-not-rising.false-raw) ∙ c.rising.ensures)
-    (sym (not-true _ c.if-not-tree_fits.true-raw) ∙ c.tree_fits.ensures))
+    judge_18 a.keys.now a.values.now a.pages (omega arith) (sym c.if-contains.false ∙ c.contains.ensures.value ∙ any_listed _ a.keys.now) (sym (not-false _ c.if-not-rising.false-raw) ∙ c.rising.ensures)
+    (sym (not-true _ c.if-not-tree_fits.true-raw) ∙ c.tree_fits.ensures)
 
 pub returns : goal.returns
 returns c =
     let a = c.args in
-    judge_0 a.keys.now a.values.now a.pages (omega arith) (sym c.if-has_zero.false ∙ c.has_zero.ensures) (sym (not-false _ c.if-not-rising.false-raw) ∙ c.rising.ensures) PagesShort
+    judge_0 a.keys.now a.values.now a.pages (omega arith) (sym c.if-contains.false ∙ c.contains.ensures.value ∙ any_listed _ a.keys.now) (sym (not-false _ c.if-not-rising.false-raw) ∙ c.rising.ensures)
     (sym (not-false _ c.if-not-tree_fits.false-raw) ∙ c.tree_fits.ensures)

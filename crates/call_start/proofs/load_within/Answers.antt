@@ -14,29 +14,26 @@ returns-then-not-lengths_ok c =
     let a = c.args in
     lengths_refused (calls.load a.keys.now a.values.now) _ a.d a.budget _ (sym c.lengths_ok.ensures ∙ not-true _ c.if-not-lengths_ok.true-raw) c.refused.ensures.0 (c.refused.ensures.1 ∙ c.idle_desk-desk.ensures)
 
-pub judged-v-requires : goal.judged-v-requires
-judged-v-requires c =
+pub judged-requires : goal.judged-requires
+judged-requires c =
     let a = c.args in
     (lengths_numbers a.wp.now a.sp.now a.wl.now a.sl.now (sym c.lengths_ok.ensures ∙ not-false _ c.if-not-lengths_ok.false-raw)).2
 
-pub returns-then-not-v : goal.returns-then-not-v
-returns-then-not-v c =
+pub returns-in-Err : goal.returns-in-Err
+returns-in-Err c =
     let a = c.args in
     let lens = sym c.lengths_ok.ensures ∙ not-false _ c.if-not-lengths_ok.false-raw in
-    let v = c.judged-v in
-    load_refused a.keys.now a.values.now a.wp.now a.sp.now a.wl.now a.sl.now lens v.result.ok v.result.why v.ensures a.d a.budget _ (not-true _ c.if-not-v.true) c.refused-then-not-v.ensures.0 (c.refused-then-not-v.ensures.1 ∙ c.idle_desk-desk.ensures)
+    load_refused a.keys.now a.values.now a.wp.now a.sp.now a.wl.now a.sl.now lens _ c.in-Err.ensures a.d a.budget _ c.refused-in-Err.ensures.0 (c.refused-in-Err.ensures.1 ∙ c.idle_desk-desk.ensures)
 
 pub start_loaded-requires : goal.start_loaded-requires
 start_loaded-requires c =
     let a = c.args in
     let lens = sym c.lengths_ok.ensures ∙ not-false _ c.if-not-lengths_ok.false-raw in
-    let v = c.judged-v in
-    let (cs, few, rise) = load_asks a.keys.now a.values.now a.wp.now a.sp.now a.wl.now a.sl.now lens v.result.ok v.result.why v.ensures (not-false _ c.if-not-v.false) in
+    let (cs, few, rise) = load_asks a.keys.now a.values.now a.wp.now a.sp.now a.wl.now a.sl.now lens c.in_default.ensures in
     (lengths_numbers a.wp.now a.sp.now a.wl.now a.sl.now lens, cs, few, rise)
 
 pub returns : goal.returns
 returns c =
     let a = c.args in
     let lens = sym c.lengths_ok.ensures ∙ not-false _ c.if-not-lengths_ok.false-raw in
-    let v = c.judged-v in
-    load_0 a.keys.now a.values.now a.wp.now a.sp.now a.wl.now a.sl.now lens v.result.ok v.result.why v.ensures (not-false _ c.if-not-v.false) a.d a.budget _ _ c.start_loaded.ensures refl c.idle_desk-desk.ensures
+    load_0 a.keys.now a.values.now a.wp.now a.sp.now a.wl.now a.sl.now lens c.in_default.ensures a.d a.budget _ _ c.start_loaded.ensures refl c.idle_desk-desk.ensures
