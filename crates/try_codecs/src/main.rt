@@ -26,7 +26,7 @@ fn say_layout(rt: &impl Print, what: &str, yes: bool) -> io::Result<()> {
 }
 
 fn entries(key: u32, val: u32) -> [Entry; ROOM] {
-    let mut es = [Entry { key: 0, val: 0 }; ROOM];
+    let mut es = [Entry::default(); ROOM];
     es[0] = Entry { key, val };
     es
 }
@@ -60,13 +60,7 @@ fn read_back(x: Page) -> bool {
     let mut b = [0u8; PAGE_SIZE];
     codec_page::write_page(&mut b, x);
     let y = codec_page::read_page(&b);
-    if y.own != x.own {
-        return false;
-    }
-    if y.count != x.count {
-        return false;
-    }
-    y.entries[0].val == x.entries[0].val
+    y.own == x.own && y.count == x.count && y.entries[0] == x.entries[0]
 }
 
 fn leaves(rt: &impl Print) -> io::Result<()> {
@@ -143,15 +137,9 @@ fn maps(rt: &impl Print) -> io::Result<()> {
 // ---- slots
 
 fn say_row(rt: &impl Print, what: &str, s: Slot) -> io::Result<()> {
-    let header = s.header;
-    let stands = match header {
-        Header::Full { .. } => {
-            if record_check::row_ok(s) {
-                "keeps its row"
-            } else {
-                "breaks its row"
-            }
-        }
+    let stands = match s.header {
+        Header::Full { .. } if record_check::row_ok(s) => "keeps its row",
+        Header::Full { .. } => "breaks its row",
         Header::Empty => "empty",
         Header::Broken => "no record",
     };
@@ -175,7 +163,7 @@ fn again(kind: u32, own: u32, a: u32, second: u32, i: usize, v: u8) -> Slot {
             second,
             right: 0,
         },
-        entries: [Entry { key: 0, val: 0 }; ROOM],
+        entries: [Entry::default(); ROOM],
     };
     let mut area = [0u8; SLOT_SIZE];
     codec_slot::write_slot(&mut area, s);
