@@ -8,7 +8,7 @@ ghost use Rattle.area_lengths.specs.Lent.{lent};
 ghost use Rattle.face_console.specs.Hearing.{hear};
 ghost use Rattle.face_console.specs.Hears.{stands};
 
-use face_console::{Heard, begun, end, ended, hear_bytes};
+use face_console::{Heard, begun, end, hear_bytes};
 use face_text::LONGEST;
 use std::io;
 use std::io::{Read, Write};
@@ -35,12 +35,11 @@ fn hear_read<W: Write>(
 {
     let mut out = [0u8; PRINTED];
     let y = hear_bytes(wp, sp, wl, sl, h, text, &mut out);
-    let n = y.said;
-    output.write_all(&out[..n])?;
+    output.write_all(&out[..y.said])?;
     Ok(y)
 }
 
-// One read.
+// One read. None: there was no more.
 fn hear_some<R: Read, W: Write>(
     wp: &mut [u8],
     sp: &mut [u8],
@@ -49,13 +48,14 @@ fn hear_some<R: Read, W: Write>(
     h: Heard,
     input: &mut R,
     output: &mut W,
-) -> io::Result<Heard> {
+) -> io::Result<Option<Heard>> {
     let mut text = [0u8; READ];
     let n = input.read(&mut text)?;
     if n == 0 {
-        return Ok(ended(h));
+        return Ok(None);
     }
-    hear_read(wp, sp, wl, sl, h, &text[..n], output)
+    let y = hear_read(wp, sp, wl, sl, h, &text[..n], output)?;
+    Ok(Some(y))
 }
 
 // Reads until there is no more. The turns are counted, as a proved loop has to end.
@@ -70,10 +70,10 @@ fn hear_all<R: Read, W: Write>(
 ) -> io::Result<Heard> {
     let mut now = h;
     for _ in 0..u64::MAX {
-        now = hear_some(wp, sp, wl, sl, now, input, output)?;
-        if !now.more {
+        let Some(next) = hear_some(wp, sp, wl, sl, now, input, output)? else {
             break;
-        }
+        };
+        now = next;
     }
     Ok(now)
 }
@@ -101,8 +101,7 @@ fn run<R: Read, W: Write>(
     let h = listen(wp, sp, wl, sl, input, output)?;
     let mut out = [0u8; LONGEST];
     let y = end(wp, sp, wl, sl, h, &mut out);
-    let n = y.said;
-    output.write_all(&out[..n])
+    output.write_all(&out[..y.said])
 }
 
 fn main(rt: HostRuntime) -> io::Result<()> {

@@ -1,7 +1,7 @@
 -- The functions for C, and what they return and leave: laws that their proofs cite.
-use Rattle.std.specs.Prelude.{◌≡◌, ℕ, Bool, true, false, not, ◌&&◌, List, ◌++◌, length, eqb}
+use Rattle.std.specs.Prelude.{◌≡◌, ◌≢◌, refl, ℕ, Bool, true, false, ◌&&◌, List, ◌++◌, length, eqb}
 use Rattle.std.proofs.Common.{ap, ap₂, sym, ◌∙◌, arith}
-use Rattle.def_base.specs.Tests.{clash, eq_true}
+use Rattle.def_base.specs.Tests.{eq_true, neq_false}
 use Rattle.def_layout.specs.declared.Desk.{Desk}
 use Rattle.def_layout.specs.Numbers.{put32, zeros}
 use Rattle.def_layout.specs.Desks.{empty_desk, desk_bytes, read_desk}
@@ -14,29 +14,30 @@ use Rattle.law_bytes.specs.Patch.{patch, then_patch, patch_whole}
 use Rattle.law_c.specs.RefusedByC.{empties, wrong_desk, desk_emptied, desk_kept, values_zeroed}
 use Rattle.call_reply.specs.declared.Reply.{Reply}
 use Rattle.call_reply.specs.Replies.{RepliesWhole}
-use Rattle.donzhikar.specs.declared.Request.{Request}
 
 -- ---- the lengths of desk and values
 
--- What they say of every call.
-pub record Asks (desk values : List ℕ) (q : Request) : Type 0 where
-  pub wrong : q.ok ≡ false → sizes_ok desk values ≡ false
-  pub sizes : q.ok ≡ true → (length desk ≡ 136) × (length values ≡ 8)
-  pub asks : q.ok ≡ true → (c : Call) (l : Lent) → answered (call c l q.desk) l ≡ c_call c l desk values
+-- What they say of every call, where both are right.
+pub record Asked (desk values : List ℕ) (d : Desk) : Type 0 where
+  pub sizes : (length desk ≡ 136) × (length values ≡ 8)
+  pub asks : (c : Call) (l : Lent) → answered (call c l d) l ≡ c_call c l desk values
 
-module _ (desk values : List ℕ) (q : Request) where
-  pub wrong_length : q.ok ≡ false → eqb (length desk) 136 && eqb (length values) 8 ≡ false → Asks desk values q
-  unfolding sizes_ok
-  wrong_length r e = record { wrong = λ t. e; sizes = λ t. clash (sym t ∙ r); asks = λ t. clash (sym t ∙ r) }
+both_false : (b : Bool) → b && false ≡ false
+both_false true = refl
+both_false false = refl
 
-  pub right_lengths : q.ok ≡ true → length desk ≡ 136 → length values ≡ 8 → q.desk ≡ read_desk desk → Asks desk values q
-  unfolding sizes_ok c_call returned_by
-  right_lengths r e f d =
-      record {
-        wrong = λ t. clash (sym r ∙ t);
-        sizes = λ t. (e, f);
-        asks = λ t c l. rw (c_call, sizes_ok, eq_true (length desk) 136 e, eq_true (length values) 8 f, d);
-      }
+pub wrong_desk_length : (desk values : List ℕ) → length desk ≢ 136 → sizes_ok desk values ≡ false
+unfolding sizes_ok
+wrong_desk_length desk values e = rw (sizes_ok, neq_false e)
+
+pub wrong_values_length : (desk values : List ℕ) → length values ≢ 8 → sizes_ok desk values ≡ false
+unfolding sizes_ok
+wrong_values_length desk values e = rw (sizes_ok, neq_false e) (both_false (eqb (length desk) 136))
+
+pub right_lengths : (desk values : List ℕ) (d : Desk) → length desk ≡ 136 → length values ≡ 8 → d ≡ read_desk desk → Asked desk values d
+unfolding sizes_ok c_call returned_by
+right_lengths desk values d e f is =
+    record { sizes = (e, f); asks = λ c l. rw (c_call, sizes_ok, eq_true (length desk) 136 e, eq_true (length values) 8 f, is) }
 
 -- ---- a refusal for one of them
 
@@ -47,13 +48,11 @@ DeskLeft e desk after = (c : Call) → empties c ≡ e → after ≡ refused_des
 pub other_desk : (e : Bool) (desk : List ℕ) → eqb (length desk) 136 ≡ false → DeskLeft e desk desk
 other_desk e desk n c p = sym (wrong_desk c desk n)
 
-pub same_desk : (e : Bool) (desk : List ℕ) → not e ≡ true → Bytes desk → DeskLeft e desk desk
-same_desk true desk t w c p = clash (sym t)
-same_desk false desk t w c p = sym (desk_kept c desk p w)
+pub same_desk : (e : Bool) (desk : List ℕ) → e ≡ false → Bytes desk → DeskLeft e desk desk
+same_desk e desk t w c p = sym (desk_kept c desk (p ∙ t) w)
 
-pub new_desk : (e : Bool) (desk after : List ℕ) (d : Desk) → not e ≡ false → length desk ≡ 136 → d ≡ empty_desk → after ≡ desk_bytes d → DeskLeft e desk after
-new_desk false desk after d t h k a c p = clash t
-new_desk true desk after d t h k a c p = a ∙ ap desk_bytes k ∙ sym (desk_emptied c desk p h)
+pub new_desk : (e : Bool) (desk after : List ℕ) (d : Desk) → e ≡ true → length desk ≡ 136 → d ≡ empty_desk → after ≡ desk_bytes d → DeskLeft e desk after
+new_desk e desk after d t h k a c p = a ∙ ap desk_bytes k ∙ sym (desk_emptied c desk (p ∙ t) h)
 
 pub zero_values : (values after : List ℕ) → length values ≡ 8 → after ≡ zeros (length values) → after ≡ refused_values values
 zero_values values after h a = a ∙ ap zeros h ∙ sym (values_zeroed values h)

@@ -1,70 +1,50 @@
 // The register's calls for C: numbers and byte slices, each slice a pointer and a length.
 //
+// Each of the fourteen has its own few lines, as C calls it by its own name, and its type says which areas it may change (the C interface).
+//
 // Every function takes the four areas in one order (working pages, stable pages, working log, stable log), then the desk's 136 bytes,
 // then 8 bytes for the answer's two values, then the call's numbers. It returns 0 or the refusal's number.
 #![tactic(auto)]
 
-ghost use Rattle.std.specs.Prelude.{◌≡◌, length};
+ghost use Rattle.std.specs.Prelude.{◌≡◌, false, length, MatchOption};
 ghost use Rattle.def_layout.specs.Sizes.{desk_size};
 ghost use Rattle.def_model.specs.CallNames as calls;
 ghost use Rattle.area_lengths.specs.Lent.{lent};
-ghost use Rattle.def_c.specs.FromC.{returned, refused_values, c_call};
-ghost use Rattle.donzhikar.specs.Returned.{Asks, DeskLeft, Refuses, Gives};
+ghost use Rattle.def_c.specs.FromC.{returned, sizes_ok, refused_values, c_call};
+ghost use Rattle.donzhikar.specs.Returned.{Asked, DeskLeft, Refuses, Gives};
 
 use call_reply::Reply;
 use codec_bytes::{set32, zero};
 use codec_desk::{get_desk, idle_desk, put_desk};
 use def_layout::{DESK_SIZE, Desk};
-use face_answers::{first_of, reason_of, second_of};
+use face_answers::Numbers;
 
-// What stands before every call: whether the lengths are right, and the desk if they are.
-#[derive(Clone, Copy)]
-struct Request {
-    ok: bool,
-    desk: Desk,
-}
-
-// The desk has 136 bytes and the values have 8, or the call is refused.
-fn asked(desk: &[u8], values: &[u8]) -> Request
-    ensures { Asks desk.now values.now result }
+// The desk, where it has 136 bytes and the values have 8. None: the call is refused for one of these lengths.
+fn asked(desk: &[u8], values: &[u8]) -> Option<Desk>
+    ensures { MatchOption result (sizes_ok desk.now values.now ≡ false) (Asked desk.now values.now) }
 {
-    let none = Request {
-        ok: false,
-        desk: idle_desk(0),
-    };
-    if desk.len() != DESK_SIZE {
-        return none;
+    if desk.len() != DESK_SIZE || values.len() != 8 {
+        return None;
     }
-    if values.len() != 8 {
-        return none;
-    }
-    Request {
-        ok: true,
-        desk: get_desk(desk),
-    }
+    Some(get_desk(desk))
 }
 
 // The desk after a refusal for a length: emptied by some calls, if it has its own.
 fn refuse_desk(desk: &mut [u8], empties: bool)
     ensures { DeskLeft empties desk.old desk.new }
 {
-    if desk.len() != DESK_SIZE {
-        return;
+    if empties && desk.len() == DESK_SIZE {
+        put_desk(desk, idle_desk(0));
     }
-    if !empties {
-        return;
-    }
-    put_desk(desk, idle_desk(0));
 }
 
 // The room for values after it: zeros, if it has its length.
 fn refuse_values(room: &mut [u8])
     ensures { room.new ≡ refused_values room.old }
 {
-    if room.len() != 8 {
-        return;
+    if room.len() == 8 {
+        zero(room);
     }
-    zero(room);
 }
 
 // The refusal for a length of desk or values. Format, load and restart empty the desk.
@@ -81,12 +61,11 @@ fn give(desk: &mut [u8], values: &mut [u8], y: Reply) -> u32
     requires { (length desk.old ≡ desk_size) × (length values.old ≡ 8) }
     ensures { Gives y result desk.new values.new }
 {
-    let a = y.answer;
-    let d = y.desk;
-    put_desk(desk, d);
-    set32(values, 0, first_of(a));
-    set32(values, 4, second_of(a));
-    reason_of(a)
+    let n = Numbers::from(y.answer);
+    put_desk(desk, y.desk);
+    set32(values, 0, n.first);
+    set32(values, 4, n.second);
+    n.reason
 }
 
 // Format: an empty register in all four areas.
@@ -101,11 +80,9 @@ pub extern "C" fn donzhikar_format(
 ) -> u32
     ensures { returned result desk.new values.new (lent wp.new sp.new wl.new sl.new) ≡ c_call calls.format (lent wp.old sp.old wl.old sl.old) desk.old values.old }
 {
-    let q = asked(desk, values);
-    if !q.ok {
+    let Some(d) = asked(desk, values) else {
         return refuse(desk, values, true);
-    }
-    let d = q.desk;
+    };
     let y = call_register::format(wp, sp, wl, sl, d);
     give(desk, values, y)
 }
@@ -125,11 +102,9 @@ pub extern "C" fn donzhikar_load(
     ensures { returned result desk.new values.new (lent wp.new sp.new wl.new sl.new)
         ≡ c_call (calls.load keys.now vals.now) (lent wp.old sp.old wl.old sl.old) desk.old values.old }
 {
-    let q = asked(desk, values);
-    if !q.ok {
+    let Some(d) = asked(desk, values) else {
         return refuse(desk, values, true);
-    }
-    let d = q.desk;
+    };
     let y = call_register::load(wp, sp, wl, sl, d, keys, vals);
     give(desk, values, y)
 }
@@ -146,11 +121,9 @@ pub extern "C" fn donzhikar_begin(
 ) -> u32
     ensures { returned result desk.new values.new (lent wp.now sp.now wl.new sl.now) ≡ c_call calls.begin (lent wp.now sp.now wl.old sl.now) desk.old values.old }
 {
-    let q = asked(desk, values);
-    if !q.ok {
+    let Some(d) = asked(desk, values) else {
         return refuse(desk, values, false);
-    }
-    let d = q.desk;
+    };
     let y = call_register::begin(wp, sp, wl, sl, d);
     give(desk, values, y)
 }
@@ -169,11 +142,9 @@ pub extern "C" fn donzhikar_fetch(
 ) -> u32
     ensures { returned result desk.new values.new (lent wp.now sp.now wl.now sl.now) ≡ c_call (calls.fetch batch key) (lent wp.now sp.now wl.now sl.now) desk.old values.old }
 {
-    let q = asked(desk, values);
-    if !q.ok {
+    let Some(d) = asked(desk, values) else {
         return refuse(desk, values, false);
-    }
-    let d = q.desk;
+    };
     let y = call_register::fetch(wp, sp, wl, sl, d, batch, key);
     give(desk, values, y)
 }
@@ -192,11 +163,9 @@ pub extern "C" fn donzhikar_next(
 ) -> u32
     ensures { returned result desk.new values.new (lent wp.now sp.now wl.now sl.now) ≡ c_call (calls.next batch key) (lent wp.now sp.now wl.now sl.now) desk.old values.old }
 {
-    let q = asked(desk, values);
-    if !q.ok {
+    let Some(d) = asked(desk, values) else {
         return refuse(desk, values, false);
-    }
-    let d = q.desk;
+    };
     let y = call_register::next(wp, sp, wl, sl, d, batch, key);
     give(desk, values, y)
 }
@@ -215,11 +184,9 @@ pub extern "C" fn donzhikar_previous(
 ) -> u32
     ensures { returned result desk.new values.new (lent wp.now sp.now wl.now sl.now) ≡ c_call (calls.previous batch key) (lent wp.now sp.now wl.now sl.now) desk.old values.old }
 {
-    let q = asked(desk, values);
-    if !q.ok {
+    let Some(d) = asked(desk, values) else {
         return refuse(desk, values, false);
-    }
-    let d = q.desk;
+    };
     let y = call_register::previous(wp, sp, wl, sl, d, batch, key);
     give(desk, values, y)
 }
@@ -239,11 +206,9 @@ pub extern "C" fn donzhikar_insert(
 ) -> u32
     ensures { returned result desk.new values.new (lent wp.new sp.now wl.new sl.now) ≡ c_call (calls.insert batch key value) (lent wp.old sp.now wl.old sl.now) desk.old values.old }
 {
-    let q = asked(desk, values);
-    if !q.ok {
+    let Some(d) = asked(desk, values) else {
         return refuse(desk, values, false);
-    }
-    let d = q.desk;
+    };
     let y = call_register::insert(wp, sp, wl, sl, d, batch, key, value);
     give(desk, values, y)
 }
@@ -262,11 +227,9 @@ pub extern "C" fn donzhikar_delete(
 ) -> u32
     ensures { returned result desk.new values.new (lent wp.new sp.now wl.new sl.now) ≡ c_call (calls.delete batch key) (lent wp.old sp.now wl.old sl.now) desk.old values.old }
 {
-    let q = asked(desk, values);
-    if !q.ok {
+    let Some(d) = asked(desk, values) else {
         return refuse(desk, values, false);
-    }
-    let d = q.desk;
+    };
     let y = call_register::delete(wp, sp, wl, sl, d, batch, key);
     give(desk, values, y)
 }
@@ -284,11 +247,9 @@ pub extern "C" fn donzhikar_commit(
 ) -> u32
     ensures { returned result desk.new values.new (lent wp.now sp.now wl.new sl.new) ≡ c_call (calls.commit batch) (lent wp.now sp.now wl.old sl.old) desk.old values.old }
 {
-    let q = asked(desk, values);
-    if !q.ok {
+    let Some(d) = asked(desk, values) else {
         return refuse(desk, values, false);
-    }
-    let d = q.desk;
+    };
     let y = call_register::commit(wp, sp, wl, sl, d, batch);
     give(desk, values, y)
 }
@@ -306,11 +267,9 @@ pub extern "C" fn donzhikar_abort(
 ) -> u32
     ensures { returned result desk.new values.new (lent wp.new sp.now wl.new sl.now) ≡ c_call (calls.abort batch) (lent wp.old sp.now wl.old sl.now) desk.old values.old }
 {
-    let q = asked(desk, values);
-    if !q.ok {
+    let Some(d) = asked(desk, values) else {
         return refuse(desk, values, false);
-    }
-    let d = q.desk;
+    };
     let y = call_register::abort(wp, sp, wl, sl, d, batch);
     give(desk, values, y)
 }
@@ -328,11 +287,9 @@ pub extern "C" fn donzhikar_mark(
 ) -> u32
     ensures { returned result desk.new values.new (lent wp.now sp.now wl.now sl.now) ≡ c_call (calls.take_mark batch) (lent wp.now sp.now wl.now sl.now) desk.old values.old }
 {
-    let q = asked(desk, values);
-    if !q.ok {
+    let Some(d) = asked(desk, values) else {
         return refuse(desk, values, false);
-    }
-    let d = q.desk;
+    };
     let y = call_register::mark(wp, sp, wl, sl, d, batch);
     give(desk, values, y)
 }
@@ -351,11 +308,9 @@ pub extern "C" fn donzhikar_return(
 ) -> u32
     ensures { returned result desk.new values.new (lent wp.new sp.now wl.new sl.now) ≡ c_call (calls.return_to batch mark) (lent wp.old sp.now wl.old sl.now) desk.old values.old }
 {
-    let q = asked(desk, values);
-    if !q.ok {
+    let Some(d) = asked(desk, values) else {
         return refuse(desk, values, false);
-    }
-    let d = q.desk;
+    };
     let y = call_register::return_to(wp, sp, wl, sl, d, batch, mark);
     give(desk, values, y)
 }
@@ -373,11 +328,9 @@ pub extern "C" fn donzhikar_write_out(
 ) -> u32
     ensures { returned result desk.new values.new (lent wp.now sp.new wl.now sl.new) ≡ c_call (calls.write_out page) (lent wp.now sp.old wl.now sl.old) desk.old values.old }
 {
-    let q = asked(desk, values);
-    if !q.ok {
+    let Some(d) = asked(desk, values) else {
         return refuse(desk, values, false);
-    }
-    let d = q.desk;
+    };
     let y = call_register::write_out(wp, sp, wl, sl, d, page);
     give(desk, values, y)
 }
@@ -394,11 +347,9 @@ pub extern "C" fn donzhikar_restart(
 ) -> u32
     ensures { returned result desk.new values.new (lent wp.new sp.now wl.new sl.new) ≡ c_call calls.restart (lent wp.old sp.now wl.old sl.old) desk.old values.old }
 {
-    let q = asked(desk, values);
-    if !q.ok {
+    let Some(d) = asked(desk, values) else {
         return refuse(desk, values, true);
-    }
-    let d = q.desk;
+    };
     let y = call_register::restart(wp, sp, wl, sl, d);
     give(desk, values, y)
 }

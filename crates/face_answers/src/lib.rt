@@ -3,68 +3,38 @@
 
 ghost use Rattle.std.specs.Prelude.{◌≡◌};
 ghost use Rattle.def_model.specs.Answers as model;
+ghost use Rattle.face_answers.specs.Numbered.{Numbered};
 
-use def_model::{Answer, Refusal};
+use def_model::Answer;
 
-// 01's numbers of the reasons.
-fn refusal_number(r: Refusal) -> u32
-    ensures { result ≡ model.refusal_number r }
-{
-    match r {
-        Refusal::Lengths => 1,
-        Refusal::PageNumber => 2,
-        Refusal::Layout => 3,
-        Refusal::Log => 4,
-        Refusal::Redo => 5,
-        Refusal::Rules => 6,
-        Refusal::ZeroKey => 7,
-        Refusal::ColumnsDiffer => 8,
-        Refusal::NotRising => 9,
-        Refusal::Unsound => 11,
-        Refusal::NoBatch => 12,
-        Refusal::EightOpen => 13,
-        Refusal::Held => 14,
-        Refusal::Present => 15,
-        Refusal::Absent => 16,
-        Refusal::SlotsShort => 17,
-        Refusal::PagesShort => 18,
-        Refusal::AbortStopped => 19,
-        Refusal::NoMark => 20,
-    }
+// What a call returns to C: 0 or the refusal's number, then the two values, 0 where there is none.
+#[derive(Clone, Copy, Debug, PartialEq, Eq, Default)]
+pub struct Numbers {
+    pub reason: u32,
+    pub first: u32,
+    pub second: u32,
 }
 
-// 0, or the refusal.
-pub fn reason_of(a: Answer) -> u32
-    ensures { result ≡ (model.answer_numbers a).reason }
-{
-    match a {
-        Answer::Done => 0,
-        Answer::Number(_) => 0,
-        Answer::Pair(_, _) => 0,
-        Answer::Refused(r) => refusal_number(r),
-    }
-}
+impl From<Answer> for Numbers {
+    ghost from_gives = { Numbered };
 
-// The first value, 0 where there is none.
-pub fn first_of(a: Answer) -> u32
-    ensures { result ≡ (model.answer_numbers a).first }
-{
-    match a {
-        Answer::Done => 0,
-        Answer::Number(x) => x,
-        Answer::Pair(x, _) => x,
-        Answer::Refused(_) => 0,
-    }
-}
-
-// The second value, 0 where there is none.
-pub fn second_of(a: Answer) -> u32
-    ensures { result ≡ (model.answer_numbers a).second }
-{
-    match a {
-        Answer::Done => 0,
-        Answer::Number(_) => 0,
-        Answer::Pair(_, y) => y,
-        Answer::Refused(_) => 0,
+    #[tactic(auto, unfolding(def_model::specs::Answers::answer_numbers))]
+    fn from(a: Answer) -> Numbers {
+        match a {
+            Answer::Done => Numbers::default(),
+            Answer::Number(n) => Numbers {
+                first: n,
+                ..Numbers::default()
+            },
+            Answer::Pair(x, y) => Numbers {
+                reason: 0,
+                first: x,
+                second: y,
+            },
+            Answer::Refused(r) => Numbers {
+                reason: u32::from(r),
+                ..Numbers::default()
+            },
+        }
     }
 }

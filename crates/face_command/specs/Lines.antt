@@ -1,52 +1,71 @@
 -- A line, byte by byte: a letter and its numbers, one space between, digits only, each number at most 4,294,967,295.
-use Rattle.std.specs.Prelude.{ℕ, ◌+◌, ◌-◌, ◌*◌, List, [], ◌∷◌, ltb, leb, eqb}
+use Rattle.std.specs.Prelude.{ℕ, Bool, true, false, ◌+◌, ◌-◌, ◌*◌, List, [], ◌∷◌, Option, Some, None, ltb, leb, eqb}
 use Rattle.def_base.specs.Tests.{pick}
+use Rattle.face_command.specs.declared.Arguments.{Arguments}
+use Rattle.face_command.specs.declared.Arguments.TheVariants.{Zero, One, Two, Three}
 use Rattle.face_command.specs.declared.Line.{Line}
+use Rattle.face_command.specs.declared.Line.TheVariants.{Start, Read, Spaced, Broken}
 
--- Nothing read; and no command, whatever comes.
+-- Nothing read.
 abbrev pub start : Line
-start = record { place = 0; letter = 0; count = 0; a = 0; b = 0; c = 0 }
+start = Start
 
-abbrev pub broken : Line
-broken = record { place = 4; letter = 0; count = 0; a = 0; b = 0; c = 0 }
-
-abbrev pub lettered : ℕ → Line
-lettered x = record { place = 1; letter = x; count = 0; a = 0; b = 0; c = 0 }
-
-abbrev pub spaced : Line → Line
-spaced l = record { place = 2; letter = l.letter; count = l.count; a = l.a; b = l.b; c = l.c }
-
-abbrev pub begun : Line → ℕ → Line
-begun l d = record { place = 3; letter = l.letter; count = l.count + 1; a = l.b; b = l.c; c = d }
-
-abbrev pub grown : Line → ℕ → Line
-grown l d = record { place = 3; letter = l.letter; count = l.count; a = l.a; b = l.b; c = 10 * l.c + d }
+-- Whether nothing of it has been read.
+abbrev pub unread : Line → Bool
+unread Start = true
+unread (Read letter numbers) = false
+unread (Spaced letter numbers) = false
+unread Broken = false
 
 unfoldable pub letter_step : ℕ → Line
-letter_step x = pick (eqb x 32) broken (lettered x)
+letter_step x = pick (eqb x 32) Broken (Read x Zero)
 
-unfoldable pub space_step : Line → Line
-space_step l = pick (eqb l.place 1) (spaced l) (pick (eqb l.place 3) (spaced l) broken)
+-- A digit's value.
+unfoldable pub digit_of : ℕ → Option ℕ
+digit_of x = pick (ltb x 48) None (pick (ltb 57 x) None (Some (x - 48)))
 
--- A digit's value, or 10.
-unfoldable pub digit_of : ℕ → ℕ
-digit_of x = pick (ltb x 48) 10 (pick (ltb 57 x) 10 (x - 48))
+-- A number with a digit more.
+unfoldable pub grown : ℕ → ℕ → Option ℕ
+grown c d = pick (leb (10 * c + d) 4294967295) (Some (10 * c + d)) None
 
-unfoldable pub first_digit : Line → ℕ → Line
-first_digit l d = pick (leb 3 l.count) broken (begun l d)
+-- A number begins. No command has more than three.
+unfoldable pub first_digit : ℕ → Arguments → ℕ → Line
+first_digit letter Zero d = Read letter (One d)
+first_digit letter (One c) d = Read letter (Two c d)
+first_digit letter (Two b c) d = Read letter (Three b c d)
+first_digit letter (Three a b c) d = Broken
 
-unfoldable pub more_digit : Line → ℕ → Line
-more_digit l d = pick (leb (10 * l.c + d) 4294967295) (grown l d) broken
+abbrev pub read_if : ℕ → Option Arguments → Line
+read_if letter (Some numbers) = Read letter numbers
+read_if letter None = Broken
 
-unfoldable pub digit_step : Line → ℕ → Line
-digit_step l d = pick (eqb l.place 2) (first_digit l d) (pick (eqb l.place 3) (more_digit l d) broken)
+abbrev pub map_some : {A B : Type 0} → (A → B) → Option A → Option B
+map_some f (Some x) = Some (f x)
+map_some f None = None
 
-unfoldable pub byte_step : Line → ℕ → Line
-byte_step l d = pick (eqb d 10) broken (digit_step l d)
+-- The last number goes on.
+unfoldable pub more_digit : ℕ → Arguments → ℕ → Line
+more_digit letter Zero d = Broken
+more_digit letter (One c) d = read_if letter (map_some One (grown c d))
+more_digit letter (Two b c) d = read_if letter (map_some (Two b) (grown c d))
+more_digit letter (Three a b c) d = read_if letter (map_some (Three a b) (grown c d))
+
+-- After the letter or a number: a space, or a digit of that number.
+unfoldable pub read_step : ℕ → Arguments → ℕ → Option ℕ → Line
+read_step letter numbers x (Some d) = more_digit letter numbers d
+read_step letter numbers x None = pick (eqb x 32) (Spaced letter numbers) Broken
+
+-- After a space: a number's first digit.
+unfoldable pub spaced_step : ℕ → Arguments → Option ℕ → Line
+spaced_step letter numbers (Some d) = first_digit letter numbers d
+spaced_step letter numbers None = Broken
 
 -- ONE BYTE MORE.
 unfoldable pub step : Line → ℕ → Line
-step l x = pick (eqb l.place 0) (letter_step x) (pick (eqb x 32) (space_step l) (byte_step l (digit_of x)))
+step Start x = letter_step x
+step (Read letter numbers) x = read_step letter numbers x (digit_of x)
+step (Spaced letter numbers) x = spaced_step letter numbers (digit_of x)
+step Broken x = Broken
 
 -- A LINE of these bytes.
 unfoldable pub read_on : Line → List ℕ → Line

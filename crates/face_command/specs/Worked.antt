@@ -4,8 +4,8 @@ use Prim.Native.Char.{code}
 use Prim.Native.String.{String, [] as []ˢ, ◌∷◌ as ◌∷ˢ◌}
 use Rattle.face_command.specs.declared.Command.{Command}
 use Rattle.face_command.specs.declared.Command.TheVariants.{Begin, Insert, Delete, Fetch, Next, Commit, Abort, WriteOut, Cut, Other}
-use Rattle.face_command.specs.Lines.{letter_step, space_step, digit_of, first_digit, more_digit, digit_step, byte_step, step, read_on}
-use Rattle.face_command.specs.Commands.{whole, alone, with_one, with_two, with_three, by_count, command, command_text}
+use Rattle.face_command.specs.Lines.{letter_step, digit_of, grown, first_digit, more_digit, read_step, spaced_step, step, read_on}
+use Rattle.face_command.specs.Commands.{alone, with_one, with_two, with_three, by_numbers, command, command_text}
 
 -- The bytes of a line in ASCII.
 unfoldable pub ascii : String → List ℕ
@@ -18,13 +18,13 @@ read line = command_text (ascii line)
 -- Each letter, with numbers that differ.
 pub letters_read : map read ("B" ∷ "I 1 2 3" ∷ "D 4 5" ∷ "F 6 7" ∷ "N 8 9" ∷ "C 10" ∷ "A 11" ∷ "W 12" ∷ "X" ∷ [])
     ≡ Begin ∷ Insert 1 2 3 ∷ Delete 4 5 ∷ Fetch 6 7 ∷ Next 8 9 ∷ Commit 10 ∷ Abort 11 ∷ WriteOut 12 ∷ Cut ∷ []
-unfolding ascii letter_step space_step digit_of first_digit more_digit digit_step byte_step step read_on whole alone with_one with_two with_three by_count command command_text
+unfolding ascii letter_step digit_of grown first_digit more_digit read_step spaced_step step read_on alone with_one with_two with_three by_numbers command command_text
 letters_read = refl
 
 -- All digits, the least and the largest number, and zeros before one.
 pub numbers_read : map read ("C 0" ∷ "F 1234567890 4294967295" ∷ "I 4294967295 0 4294967295" ∷ "C 00004294967295" ∷ [])
     ≡ Commit 0 ∷ Fetch 1234567890 4294967295 ∷ Insert 4294967295 0 4294967295 ∷ Commit 4294967295 ∷ []
-unfolding ascii letter_step space_step digit_of first_digit more_digit digit_step byte_step step read_on whole alone with_one with_two with_three by_count command command_text
+unfolding ascii letter_step digit_of grown first_digit more_digit read_step spaced_step step read_on alone with_one with_two with_three by_numbers command command_text
 numbers_read = refl
 
 -- ---- lines that are no command
@@ -60,5 +60,5 @@ NoCommands ls = map read ls ≡ map (λ (l : String). Other) ls
 
 -- "Any other line prints `?`."
 pub others_read : NoCommands unknown × NoCommands too_few × NoCommands too_many × NoCommands too_large × NoCommands not_decimal × NoCommands misspaced × NoCommands followed
-unfolding ascii letter_step space_step digit_of first_digit more_digit digit_step byte_step step read_on whole alone with_one with_two with_three by_count command command_text
+unfolding ascii letter_step digit_of grown first_digit more_digit read_step spaced_step step read_on alone with_one with_two with_three by_numbers command command_text
 others_read = (refl, refl, refl, refl, refl, refl, refl)

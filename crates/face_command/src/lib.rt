@@ -1,25 +1,33 @@
 // A line of the console: read byte by byte, so that it may be of any length, and taken as a command.
 #![tactic(auto)]
 
-ghost use Rattle.std.specs.Prelude.{◌≡◌, ◌≤◌};
+ghost use Rattle.std.specs.Prelude.{◌≡◌};
 ghost use Rattle.face_command.specs.Lines as lines;
 ghost use Rattle.face_command.specs.Commands as commands;
 
-// What has been read of a line: where it stands (0 at its start, 1 after the letter, 2 after a space, 3 in a number, 4 no command), the
-// letter, and how many numbers there are. The last is `c`, those before it are `b` and `a`.
-#[derive(Clone, Copy)]
-pub struct Line {
-    pub place: u32,
-    pub letter: u32,
-    pub count: u32,
-    pub a: u32,
-    pub b: u32,
-    pub c: u32,
+// The numbers of a line. No command has more than three.
+#[derive(Clone, Copy, Debug, PartialEq, Eq)]
+pub enum Arguments {
+    Zero,
+    One(u32),
+    Two(u32, u32),
+    Three(u32, u32, u32),
+}
+
+// What has been read of a line: nothing; a letter and numbers, the last of which may go on; these and a space, after which a number comes;
+// or what is no command, whatever comes.
+#[derive(Clone, Copy, Debug, PartialEq, Eq, Default)]
+pub enum Line {
+    #[default]
+    Start,
+    Read { letter: u32, numbers: Arguments },
+    Spaced { letter: u32, numbers: Arguments },
+    Broken,
 }
 
 // 01: "B begin; I, D, F, N insert, delete, fetch, next, with batch and key (I also value); C commit and A abort, with batch; W write-out,
 // with page; X cut and restart." Other is any other line.
-#[derive(Clone, Copy)]
+#[derive(Clone, Copy, Debug, PartialEq, Eq)]
 pub enum Command {
     Begin,
     Insert { batch: u32, key: u32, value: u32 },
@@ -33,234 +41,160 @@ pub enum Command {
     Other,
 }
 
+const SPACE: u32 = 32;
+
 // A line of which nothing has been read.
 pub fn new_line() -> Line
     ensures { result ≡ lines.start }
 {
-    Line {
-        place: 0,
-        letter: 0,
-        count: 0,
-        a: 0,
-        b: 0,
-        c: 0,
-    }
+    Line::default()
 }
 
-fn no_command() -> Line
-    ensures { result ≡ lines.broken }
-{
-    Line {
-        place: 4,
-        letter: 0,
-        count: 0,
-        a: 0,
-        b: 0,
-        c: 0,
-    }
-}
-
+#[tactic(auto, unfolding(crate::specs::Lines::letter_step))]
 fn letter_step(x: u32) -> Line
     ensures { result ≡ lines.letter_step x }
 {
-    if x == 32 {
-        return no_command();
-    }
-    Line {
-        place: 1,
-        letter: x,
-        count: 0,
-        a: 0,
-        b: 0,
-        c: 0,
+    if x == SPACE {
+        Line::Broken
+    } else {
+        Line::Read {
+            letter: x,
+            numbers: Arguments::Zero,
+        }
     }
 }
 
-fn spaced(l: Line) -> Line
-    ensures { result ≡ lines.spaced l }
+// A digit's value.
+#[tactic(auto, unfolding(crate::specs::Lines::digit_of))]
+fn digit_of(x: u32) -> Option<u32>
+    ensures { result ≡ lines.digit_of x }
 {
-    Line {
-        place: 2,
-        letter: l.letter,
-        count: l.count,
-        a: l.a,
-        b: l.b,
-        c: l.c,
+    match x {
+        48..=57 => Some(x - 48),
+        _ => None,
     }
 }
 
-fn space_step(l: Line) -> Line
-    ensures { result ≡ lines.space_step l }
+// A number with a digit more, up to 4,294,967,295.
+#[tactic(auto, unfolding(crate::specs::Lines::grown))]
+fn grown(c: u32, d: u32) -> Option<u32>
+    ensures { result ≡ lines.grown c d }
 {
-    if l.place == 1 {
-        return spaced(l);
-    }
-    if l.place == 3 {
-        return spaced(l);
-    }
-    no_command()
+    c.checked_mul(10)?.checked_add(d)
 }
 
-// A digit's value, or 10.
-fn digit_of(x: u32) -> u32
-    ensures { (result ≡ lines.digit_of x) × (result ≤ 10) }
+// A number begins.
+#[tactic(auto, unfolding(crate::specs::Lines::first_digit))]
+fn first_digit(letter: u32, numbers: Arguments, d: u32) -> Line
+    ensures { result ≡ lines.first_digit letter numbers d }
 {
-    if x < 48 {
-        return 10;
-    }
-    if 57 < x {
-        return 10;
-    }
-    x - 48
+    let numbers = match numbers {
+        Arguments::Zero => Arguments::One(d),
+        Arguments::One(c) => Arguments::Two(c, d),
+        Arguments::Two(b, c) => Arguments::Three(b, c, d),
+        Arguments::Three(_, _, _) => return Line::Broken,
+    };
+    Line::Read { letter, numbers }
 }
 
-// A number begins. No command has more than three.
-fn first_digit(l: Line, d: u32) -> Line
-    ensures { result ≡ lines.first_digit l d }
+// The last number goes on.
+#[tactic(auto, unfolding(crate::specs::Lines::more_digit))]
+fn more_digit(letter: u32, numbers: Arguments, d: u32) -> Line
+    ensures { result ≡ lines.more_digit letter numbers d }
 {
-    if 3 <= l.count {
-        return no_command();
-    }
-    Line {
-        place: 3,
-        letter: l.letter,
-        count: l.count + 1,
-        a: l.b,
-        b: l.c,
-        c: d,
-    }
-}
-
-// A number goes on, up to 4,294,967,295.
-fn more_digit(l: Line, d: u32) -> Line
-    requires { d ≤ 10 }
-    ensures { result ≡ lines.more_digit l d }
-{
-    if (4294967295 - d) / 10 < l.c {
-        return no_command();
-    }
-    Line {
-        place: 3,
-        letter: l.letter,
-        count: l.count,
-        a: l.a,
-        b: l.b,
-        c: 10 * l.c + d,
+    let more = match numbers {
+        Arguments::Zero => None,
+        Arguments::One(c) => grown(c, d).map(Arguments::One),
+        Arguments::Two(b, c) => grown(c, d).map(|c| Arguments::Two(b, c)),
+        Arguments::Three(a, b, c) => grown(c, d).map(|c| Arguments::Three(a, b, c)),
+    };
+    match more {
+        Some(numbers) => Line::Read { letter, numbers },
+        None => Line::Broken,
     }
 }
 
-fn digit_step(l: Line, d: u32) -> Line
-    requires { d ≤ 10 }
-    ensures { result ≡ lines.digit_step l d }
-{
-    if l.place == 2 {
-        return first_digit(l, d);
-    }
-    if l.place == 3 {
-        return more_digit(l, d);
-    }
-    no_command()
-}
-
-// One byte more of a line.
+// One byte more of a line. It is taken as a number of 32 bits, for this answers for every one.
+#[tactic(auto, unfolding(crate::specs::Lines::step, crate::specs::Lines::read_step, crate::specs::Lines::spaced_step))]
 pub fn step(l: Line, x: u32) -> Line
     ensures { result ≡ lines.step l x }
 {
-    if l.place == 0 {
-        return letter_step(x);
+    match l {
+        Line::Start => letter_step(x),
+        Line::Read { letter, numbers } => match digit_of(x) {
+            Some(d) => more_digit(letter, numbers, d),
+            None if x == SPACE => Line::Spaced { letter, numbers },
+            None => Line::Broken,
+        },
+        Line::Spaced { letter, numbers } => match digit_of(x) {
+            Some(d) => first_digit(letter, numbers, d),
+            None => Line::Broken,
+        },
+        Line::Broken => Line::Broken,
     }
-    if x == 32 {
-        return space_step(l);
-    }
-    let d = digit_of(x);
-    if d == 10 {
-        return no_command();
-    }
-    digit_step(l, d)
 }
 
-fn whole(l: Line) -> bool
-    ensures { result ≡ commands.whole l }
-{
-    if l.place == 1 {
-        return true;
-    }
-    l.place == 3
-}
-
+#[tactic(auto, unfolding(crate::specs::Commands::alone))]
 fn alone(letter: u32) -> Command
     ensures { result ≡ commands.alone letter }
 {
-    if letter == 66 {
-        return Command::Begin;
+    match u8::try_from(letter) {
+        Ok(b'B') => Command::Begin,
+        Ok(b'X') => Command::Cut,
+        _ => Command::Other,
     }
-    if letter == 88 {
-        return Command::Cut;
-    }
-    Command::Other
 }
 
+#[tactic(auto, unfolding(crate::specs::Commands::with_one))]
 fn with_one(letter: u32, c: u32) -> Command
     ensures { result ≡ commands.with_one letter c }
 {
-    if letter == 67 {
-        return Command::Commit { batch: c };
+    match u8::try_from(letter) {
+        Ok(b'C') => Command::Commit { batch: c },
+        Ok(b'A') => Command::Abort { batch: c },
+        Ok(b'W') => Command::WriteOut { page: c },
+        _ => Command::Other,
     }
-    if letter == 65 {
-        return Command::Abort { batch: c };
-    }
-    if letter == 87 {
-        return Command::WriteOut { page: c };
-    }
-    Command::Other
 }
 
+#[tactic(auto, unfolding(crate::specs::Commands::with_two))]
 fn with_two(letter: u32, b: u32, c: u32) -> Command
     ensures { result ≡ commands.with_two letter b c }
 {
-    if letter == 68 {
-        return Command::Delete { batch: b, key: c };
+    match u8::try_from(letter) {
+        Ok(b'D') => Command::Delete { batch: b, key: c },
+        Ok(b'F') => Command::Fetch { batch: b, key: c },
+        Ok(b'N') => Command::Next { batch: b, key: c },
+        _ => Command::Other,
     }
-    if letter == 70 {
-        return Command::Fetch { batch: b, key: c };
-    }
-    if letter == 78 {
-        return Command::Next { batch: b, key: c };
-    }
-    Command::Other
 }
 
+#[tactic(auto, unfolding(crate::specs::Commands::with_three))]
 fn with_three(letter: u32, a: u32, b: u32, c: u32) -> Command
     ensures { result ≡ commands.with_three letter a b c }
 {
-    if letter == 73 {
-        return Command::Insert {
+    match u8::try_from(letter) {
+        Ok(b'I') => Command::Insert {
             batch: a,
             key: b,
             value: c,
-        };
+        },
+        _ => Command::Other,
     }
-    Command::Other
 }
 
 // What a line that has been read to its end says.
+#[tactic(auto, unfolding(crate::specs::Commands::command, crate::specs::Commands::by_numbers))]
 pub fn command_of(l: Line) -> Command
     ensures { result ≡ commands.command l }
 {
-    if !whole(l) {
+    let Line::Read { letter, numbers } = l else {
         return Command::Other;
+    };
+    match numbers {
+        Arguments::Zero => alone(letter),
+        Arguments::One(c) => with_one(letter, c),
+        Arguments::Two(b, c) => with_two(letter, b, c),
+        Arguments::Three(a, b, c) => with_three(letter, a, b, c),
     }
-    if l.count == 0 {
-        return alone(l.letter);
-    }
-    if l.count == 1 {
-        return with_one(l.letter, l.c);
-    }
-    if l.count == 2 {
-        return with_two(l.letter, l.b, l.c);
-    }
-    if l.count == 3 {
-        return with_three(l.letter, l.a, l.b, l.c);
-    }
-    Command::Other
 }

@@ -1,9 +1,12 @@
 -- The session byte by byte, as the code hears it; and that it is the session.
-use Rattle.std.specs.Prelude.{◌≡◌, refl, ℕ, ◌+◌, ◌*◌, ◌<◌, Bool, true, false, List, [], ◌∷◌, ◌++◌, length, take, get_or, eqb, leb}
+use Rattle.std.specs.Prelude.{◌≡◌, refl, ℕ, ◌+◌, ◌*◌, ◌<◌, Bool, true, false, List, [], ◌∷◌, ◌++◌, length, take, get_or, eqb, Option, Some, None}
 use Rattle.std.proofs.Common.{ap, sym, ◌∙◌, add-one, append_assoc, append-nil, take-suc}
 use Rattle.def_base.specs.Tests.{pick, Case, yes!, no!, case}
 use Rattle.face_command.specs.declared.Line.{Line}
-use Rattle.face_command.specs.Lines.{start, step, read_on, letter_step, space_step, first_digit, more_digit, digit_step, byte_step, digit_of}
+use Rattle.face_command.specs.declared.Arguments.{Arguments}
+use Rattle.face_command.specs.declared.Arguments.TheVariants.{Zero, One, Two, Three}
+use Rattle.face_command.specs.declared.Line.TheVariants.{Start, Read, Spaced, Broken}
+use Rattle.face_command.specs.Lines.{start, unread, step, read_on, letter_step, digit_of, grown, first_digit, more_digit, read_if, map_some, read_step, spaced_step}
 use Rattle.face_command.specs.Commands.{command, command_text}
 use Rattle.face_text.specs.Input.{last_line, lines_from}
 use Rattle.face_text.specs.Texts.{line_text}
@@ -33,7 +36,7 @@ hear (x ∷ text) s = and_then (hear_byte x s) (hear text)
 
 -- There is no more to read.
 unfoldable pub hear_end : Listening → Out Listening
-hear_end s = elim (eqb s.line.place 0) [ true ↦ out [] s | false ↦ hear_line s ]
+hear_end s = elim (unread s.line) [ true ↦ out [] s | false ↦ hear_line s ]
 
 -- ---- one byte more
 
@@ -64,15 +67,34 @@ either P true l k p q = p
 either P false l k p q = q
 
 abbrev Begun : Line → Type 0
-Begun l = eqb l.place 0 ≡ false
+Begun l = unread l ≡ false
+
+if_begun : (letter : ℕ) (numbers : Option Arguments) → Begun (read_if letter numbers)
+if_begun letter (Some numbers) = refl
+if_begun letter None = refl
+
+read_begun : (letter : ℕ) (numbers : Arguments) (x : ℕ) (d : Option ℕ) → Begun (read_step letter numbers x d)
+unfolding read_step more_digit
+read_begun letter Zero x (Some d) = refl
+read_begun letter (One c) x (Some d) = if_begun letter (map_some One (grown c d))
+read_begun letter (Two b c) x (Some d) = if_begun letter (map_some (Two b) (grown c d))
+read_begun letter (Three a b c) x (Some d) = if_begun letter (map_some (Three a b) (grown c d))
+read_begun letter numbers x None = either Begun (eqb x 32) _ _ refl refl
+
+spaced_begun : (letter : ℕ) (numbers : Arguments) (d : Option ℕ) → Begun (spaced_step letter numbers d)
+unfolding spaced_step first_digit
+spaced_begun letter Zero (Some d) = refl
+spaced_begun letter (One c) (Some d) = refl
+spaced_begun letter (Two b c) (Some d) = refl
+spaced_begun letter (Three a b c) (Some d) = refl
+spaced_begun letter numbers None = refl
 
 begun_step : (l : Line) (x : ℕ) → Begun (step l x)
-unfolding step letter_step space_step first_digit more_digit digit_step byte_step
-begun_step l x =
-    either Begun (eqb l.place 0) _ _ (either Begun (eqb x 32) _ _ refl refl)
-    (either Begun (eqb x 32) _ _ (either Begun (eqb l.place 1) _ _ refl (either Begun (eqb l.place 3) _ _ refl refl))
-    (either Begun (eqb (digit_of x) 10) _ _ refl
-    (either Begun (eqb l.place 2) _ _ (either Begun (leb 3 l.count) _ _ refl refl) (either Begun (eqb l.place 3) _ _ (either Begun (leb (10 * l.c + digit_of x) 4294967295) _ _ refl refl) refl))))
+unfolding step letter_step
+begun_step Start x = either Begun (eqb x 32) _ _ refl refl
+begun_step (Read letter numbers) x = read_begun letter numbers x (digit_of x)
+begun_step (Spaced letter numbers) x = spaced_begun letter numbers (digit_of x)
+begun_step Broken x = refl
 
 begun_read : (l : Line) (text : List ℕ) → Begun l → Begun (read_on l text)
 unfolding read_on

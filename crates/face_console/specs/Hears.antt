@@ -1,5 +1,5 @@
 -- What the code that hears leaves: the areas, the desk and the line; and, in bytes lent to it, what is to be printed.
-use Rattle.std.specs.Prelude.{◌≡◌, refl, ◌≢◌, ℕ, ◌+◌, ◌≤◌, ◌<◌, List, [], ◌++◌, length, take, get_or}
+use Rattle.std.specs.Prelude.{◌≡◌, refl, ◌≢◌, ℕ, false, ◌+◌, ◌≤◌, ◌<◌, List, [], ◌++◌, length, take, get_or}
 use Rattle.std.proofs.Common.{ap, sym, subst, ◌∙◌, append-nil, take_all, length-take-le}
 use Rattle.io.specs.Counts.{IsPrefixLen}
 use Rattle.def_base.specs.Tests.{eq_true, neq_false}
@@ -11,7 +11,8 @@ use Rattle.call_reply.specs.declared.Reply.{Reply}
 use Rattle.call_reply.specs.Replies.{RepliesWhole}
 use Rattle.face_command.specs.declared.Line.{Line}
 use Rattle.face_command.specs.declared.Command.{Command}
-use Rattle.face_command.specs.Lines.{start, step}
+use Rattle.face_command.specs.declared.Line.TheVariants.{Start, Read, Spaced, Broken}
+use Rattle.face_command.specs.Lines.{start, unread, step}
 use Rattle.face_command.specs.Commands.{command}
 use Rattle.face_text.specs.Texts.{line_text}
 use Rattle.face_text.specs.Puts.{Puts, puts_then}
@@ -82,16 +83,22 @@ pub all_heard : (text : List ℕ) (i : ℕ) (s : Listening) (l : Lent) (h : Hear
 all_heard text i s l h b a e p = subst (λ (t : List ℕ). Hears (hear t s) l h b 0 a) (take_all i text e) p
 
 -- The end of what is read.
-pub nothing_left : (l : Lent) (h r : Heard) (b : List ℕ) → h.line.place ≡ 0 → r.line ≡ h.line → r.desk ≡ h.desk → r.said ≡ 0 → Hears (hear_end (stands l h)) l r b 0 b
+pub nothing_left : (l : Lent) (h r : Heard) (b : List ℕ) → h.line ≡ Start → r.line ≡ h.line → r.desk ≡ h.desk → r.said ≡ 0 → Hears (hear_end (stands l h)) l r b 0 b
 unfolding hear_end
 nothing_left l h r b e el ed es =
-    hears_as (out [] (stands l h)) (hear_end (stands l h)) l r b 0 b (rw (hear_end, eq_true h.line.place 0 e))
+    hears_as (out [] (stands l h)) (hear_end (stands l h)) l r b 0 b (rw (hear_end, ap unread e))
     (ap (λ (d : Desk). listening (world l d) r.line) ed ∙ ap (λ (k : Line). listening (world l h.desk) k) el, ap (λ (n : ℕ). take n b) es)
 
-pub line_left : (l after : Lent) (h last r : Heard) (b a : List ℕ) → last.line.place ≢ 0 → last.line ≡ h.line → last.desk ≡ h.desk → last.said ≡ 0
+some_read : (l : Line) → l ≢ Start → unread l ≡ false
+some_read Start e = absurd (e refl)
+some_read (Read letter numbers) e = refl
+some_read (Spaced letter numbers) e = refl
+some_read Broken e = refl
+
+pub line_left : (l after : Lent) (h last r : Heard) (b a : List ℕ) → last.line ≢ Start → last.line ≡ h.line → last.desk ≡ h.desk → last.said ≡ 0
     → Hears (hear_line (stands l last)) after r b last.said a → Hears (hear_end (stands l h)) after r b 0 a
 unfolding hear_end
 line_left l after h last r b a e el ed es q =
     let at : stands l last ≡ stands l h = ap (λ (d : Desk). listening (world l d) last.line) ed ∙ ap (λ (k : Line). listening (world l h.desk) k) el in
-    let o : Hears (hear_end (stands l last)) after r b last.said a = hears_as (hear_line (stands l last)) (hear_end (stands l last)) after r b last.said a (rw (hear_end, neq_false e)) q in
+    let o : Hears (hear_end (stands l last)) after r b last.said a = hears_as (hear_line (stands l last)) (hear_end (stands l last)) after r b last.said a (rw (hear_end, some_read last.line e)) q in
     subst (λ (n : ℕ). Hears (hear_end (stands l h)) after r b n a) es (subst (λ (s : Listening). Hears (hear_end s) after r b last.said a) at o)

@@ -1,7 +1,8 @@
-// The console's session: one command a line, carried out, and one line for each; all but the reading and the writing.
+// The console's session: one command a line, carried out, and one line for each; all but the reading and the writing. The four areas stay
+// four parameters: a struct of them is no plainer, for each call of the register is lent each area apart, as its type says which it changes.
 #![tactic(auto)]
 
-ghost use Rattle.std.specs.Prelude.{◌≡◌, false, ◌+◌, ◌*◌, ◌≤◌, length};
+ghost use Rattle.std.specs.Prelude.{◌≡◌, ◌+◌, ◌*◌, ◌≤◌, length};
 ghost use Rattle.io.specs.Counts.{IsPrefixLen};
 ghost use Rattle.def_layout.specs.Desks.{empty_desk};
 ghost use Rattle.area_lengths.specs.Lent.{lent};
@@ -20,13 +21,12 @@ use def_model::Answer;
 use face_command::{Command, Line, command_of, new_line, step};
 use face_text::put_line;
 
-// What the console knows between two bytes: the line so far, the desk, how many bytes are to be printed, and whether there may be more to read.
-#[derive(Clone, Copy)]
+// What the console knows between two bytes: the line so far, the desk, and how many bytes are to be printed.
+#[derive(Clone, Copy, Debug, PartialEq, Eq)]
 pub struct Heard {
     pub line: Line,
     pub desk: Desk,
     pub said: usize,
-    pub more: bool,
 }
 
 fn cut_and_restart(wp: &mut [u8], sp: &mut [u8], wl: &mut [u8], sl: &mut [u8]) -> Reply
@@ -72,18 +72,13 @@ fn hear_line(
     requires { h.said + 35 ≤ length out.old }
     ensures { (result.said ≤ h.said + 35) × Hears (hear_line (stands (lent wp.old sp.old wl.old sl.old) h)) (lent wp.new sp.new wl.new sl.new) result out.old h.said out.new }
 {
-    let l = h.line;
-    let d = h.desk;
-    let c = command_of(l);
-    let y = obey(wp, sp, wl, sl, d, c);
-    let a = y.answer;
-    let e = y.desk;
-    let said = put_line(out, h.said, c, a);
+    let c = command_of(h.line);
+    let y = obey(wp, sp, wl, sl, h.desk, c);
+    let said = put_line(out, h.said, c, y.answer);
     Heard {
         line: new_line(),
-        desk: e,
+        desk: y.desk,
         said,
-        more: true,
     }
 }
 
@@ -103,13 +98,9 @@ fn hear_byte(
     if x == b'\n' {
         return hear_line(wp, sp, wl, sl, h, out);
     }
-    let l = h.line;
-    let d = h.desk;
     Heard {
-        line: step(l, x as u32),
-        desk: d,
-        said: h.said,
-        more: true,
+        line: step(h.line, x as u32),
+        ..h
     }
 }
 
@@ -126,32 +117,11 @@ pub fn hear_bytes(
     requires { 35 * length text.now ≤ length out.old }
     ensures { IsPrefixLen result.said out.new × Hears (hear text.now (stands (lent wp.old sp.old wl.old sl.old) h)) (lent wp.new sp.new wl.new sl.new) result out.old 0 out.new }
 {
-    let l = h.line;
-    let d = h.desk;
-    let mut now = Heard {
-        line: l,
-        desk: d,
-        said: 0,
-        more: true,
-    };
-    for i in 0..text.len() {
-        now = hear_byte(wp, sp, wl, sl, now, text[i], out);
+    let mut now = Heard { said: 0, ..h };
+    for x in text {
+        now = hear_byte(wp, sp, wl, sl, now, *x, out);
     }
     now
-}
-
-// There is no more to read, and nothing to print.
-pub fn ended(h: Heard) -> Heard
-    ensures { (result.line ≡ h.line) × (result.desk ≡ h.desk) × (result.said ≡ 0) × (result.more ≡ false) }
-{
-    let l = h.line;
-    let d = h.desk;
-    Heard {
-        line: l,
-        desk: d,
-        said: 0,
-        more: false,
-    }
 }
 
 // The last line may have no end.
@@ -166,8 +136,8 @@ pub fn end(
     requires { 35 ≤ length out.old }
     ensures { IsPrefixLen result.said out.new × Hears (hear_end (stands (lent wp.old sp.old wl.old sl.old) h)) (lent wp.new sp.new wl.new sl.new) result out.old 0 out.new }
 {
-    let last = ended(h);
-    if last.line.place == 0 {
+    let last = Heard { said: 0, ..h };
+    if last.line == Line::Start {
         return last;
     }
     hear_line(wp, sp, wl, sl, last, out)
@@ -178,11 +148,9 @@ pub fn begun(wp: &mut [u8], sp: &mut [u8], wl: &mut [u8], sl: &mut [u8]) -> Hear
     ensures { stands (lent wp.new sp.new wl.new sl.new) result ≡ listening (formatted (lent wp.old sp.old wl.old sl.old)) start }
 {
     let y = call_register::format(wp, sp, wl, sl, idle_desk(0));
-    let d = y.desk;
     Heard {
         line: new_line(),
-        desk: d,
+        desk: y.desk,
         said: 0,
-        more: true,
     }
 }

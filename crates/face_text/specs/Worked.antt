@@ -7,8 +7,8 @@ use Rattle.def_model.specs.declared.Refusal.TheVariants.{Absent}
 use Rattle.def_model.specs.Answers.{refusal_number}
 use Rattle.face_command.specs.declared.Command.{Command}
 use Rattle.face_command.specs.declared.Command.TheVariants.{Begin, Insert, Delete, Fetch, Next, Commit, Abort, WriteOut, Cut, Other}
-use Rattle.face_command.specs.Lines.{letter_step, space_step, digit_of, first_digit, more_digit, digit_step, byte_step, step, read_on}
-use Rattle.face_command.specs.Commands.{whole, alone, with_one, with_two, with_three, by_count, command, command_text}
+use Rattle.face_command.specs.Lines.{letter_step, digit_of, grown, first_digit, more_digit, read_step, spaced_step, step, read_on}
+use Rattle.face_command.specs.Commands.{alone, with_one, with_two, with_three, by_numbers, command, command_text}
 use Rattle.face_text.specs.Decimal.{digits_of, decimal}
 use Rattle.face_text.specs.Input.{lines_from, lines}
 use Rattle.face_text.specs.Texts.{letter, number_text, answer_text, line_text}
@@ -37,7 +37,7 @@ all_lines (c ∷ more) [] = []
 all_lines (c ∷ more) (a ∷ answered) = line_text c a ++ all_lines more answered
 
 pub example_read : map command_text (lines input) ≡ commands
-unfolding lines_from letter_step space_step digit_of first_digit more_digit digit_step byte_step step read_on whole alone with_one with_two with_three by_count command command_text
+unfolding lines_from letter_step digit_of grown first_digit more_digit read_step spaced_step step read_on alone with_one with_two with_three by_numbers command command_text
 example_read = refl
 
 pub example_printed : all_lines commands answers ≡ output

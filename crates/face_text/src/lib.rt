@@ -7,13 +7,14 @@ ghost use Rattle.face_text.specs.Puts.{Puts};
 
 use codec_bytes::copy_part;
 use def_model::Answer;
-use face_answers::reason_of;
+use face_answers::Numbers;
 use face_command::Command;
 
 // A line takes at most these bytes: a letter, three numbers of up to 10 digits, each after a space, and an end.
 pub const LONGEST: usize = 35;
 
 // 01's letter of a command; '?' of any other line.
+#[tactic(auto, unfolding(crate::specs::Texts::letter))]
 fn letter_of(c: Command) -> u8
     ensures { result ≡ texts.letter c }
 {
@@ -57,7 +58,7 @@ fn put_answer(out: &mut [u8], n: usize, a: Answer) -> usize
     requires { n + 33 ≤ length out.old }
     ensures { (result ≤ n + 33) × Puts out.old n out.new result (texts.answer_text a) }
 {
-    let m = put_number(out, n, reason_of(a));
+    let m = put_number(out, n, Numbers::from(a).reason);
     match a {
         Answer::Done => m,
         Answer::Number(x) => put_number(out, m, x),

@@ -1,13 +1,12 @@
 -- `donzhikar_commit`: refused by a length, or what the call replies.
-use borrow.Author.Tests.{not-true, not-false}
 use mathlib.Core.Path.{refl, ◌∙◌}
 use Rattle.donzhikar.proofs.donzhikar_commit.Goals as goal
 
-pub returns-then-not-q : goal.returns-then-not-q
-returns-then-not-q c = c.refuse.ensures _ _ refl (c.asked-q.ensures.wrong (not-true _ c.if-not-q.true))
+pub returns-in_default : goal.returns-in_default
+returns-in_default c = c.refuse.ensures _ _ refl c.in_default.ensures
 
 pub give-requires : goal.give-requires
-give-requires c = c.asked-q.ensures.sizes (not-false _ c.if-not-q.false)
+give-requires c = c.in-Some.ensures.sizes
 
 pub returns : goal.returns
-returns c = c.give.ensures _ _ _ _ c.commit-y.ensures ∙ c.asked-q.ensures.asks (not-false _ c.if-not-q.false) _ _
+returns c = c.give.ensures _ _ _ _ c.commit-y.ensures ∙ c.in-Some.ensures.asks _ _

@@ -1,6 +1,5 @@
 -- `hear_byte`: a line's end, or one byte more.
 use mathlib.Core.Path.{refl}
-use mathlib.Core.Bool.{true}
 use native.Mathlib.Omega.{arith}
 use Rattle.area_lengths.specs.Lent.{lent}
 use Rattle.face_console.specs.Hears.{stands, byte_ended, byte_heard}
@@ -15,4 +14,4 @@ returns-then-x-eq10 c =
 pub returns : goal.returns
 returns c =
     let a = c.args in
-    (omega arith, byte_heard a.x (lent a.wp.now a.sp.now a.wl.now a.sl.now) a.h (record { line = c.step.result; desk = a.h.desk; said = a.h.said; more = true }) a.out.now c.if-x-eq10.false c.step.ensures refl refl)
+    (omega arith, byte_heard a.x (lent a.wp.now a.sp.now a.wl.now a.sl.now) a.h (record { line = c.step.result; desk = a.h.desk; said = a.h.said }) a.out.now c.if-x-eq10.false c.step.ensures refl refl)
