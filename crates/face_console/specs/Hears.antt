@@ -86,7 +86,7 @@ all_heard text i s l h b a e p = subst (λ (t : List ℕ). Hears (hear t s) l h 
 pub nothing_left : (l : Lent) (h r : Heard) (b : List ℕ) → h.line ≡ Start → r.line ≡ h.line → r.desk ≡ h.desk → r.said ≡ 0 → Hears (hear_end (stands l h)) l r b 0 b
 unfolding hear_end
 nothing_left l h r b e el ed es =
-    hears_as (out [] (stands l h)) (hear_end (stands l h)) l r b 0 b (rw (hear_end, e))
+    hears_as (out [] (stands l h)) (hear_end (stands l h)) l r b 0 b (rw (hear_end, ap unread e))
     (ap (λ (d : Desk). listening (world l d) r.line) ed ∙ ap (λ (k : Line). listening (world l h.desk) k) el, ap (λ (n : ℕ). take n b) es)
 
 some_read : (l : Line) → l ≢ Start → unread l ≡ false

@@ -99,7 +99,7 @@ fn hear_byte(
         return hear_line(wp, sp, wl, sl, h, out);
     }
     Heard {
-        line: step(h.line, u32::from(x)),
+        line: step(h.line, x as u32),
         ..h
     }
 }
