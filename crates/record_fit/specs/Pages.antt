@@ -1,8 +1,8 @@
 -- What refusal 5 asks of a page, in the program's numbers: its kind, its entries, and each kind's row.
 use Rattle.std.specs.Prelude.{◌≡◌, Bool, ◌&&◌, List, length, take, drop, ltb, leb}
-use Rattle.std.proofs.Math.Path.{refl, ap, ap₂, sym}
+use Rattle.std.proofs.Math.Path.{refl, ap, sym}
 use Rattle.std.proofs.Common.{◌∙◌, arith}
-use Prim.Native.Nat.{ℕ, suc, ◌+◌, ◌-◌, ◌<◌}
+use Prim.Native.Nat.{ℕ, suc, ◌+◌, ◌-◌}
 use Rattle.std.proofs.Math.Dec.{eqb}
 use Rattle.def_base.specs.Tests.{neq_false}
 use Rattle.def_layout.specs.declared.Entry.{Entry}

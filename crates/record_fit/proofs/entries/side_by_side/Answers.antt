@@ -1,6 +1,5 @@
 -- `side_by_side`: nothing after u's place, or the two entries.
-use mathlib.Core.Path.{refl, ◌∙◌}
-use Rattle.record_fit.specs.Tests.{both_of, side_none, side_here}
+use Rattle.record_fit.specs.Tests.{side_none, side_here}
 use Rattle.record_fit.proofs.entries.side_by_side.Goals as goal
 
 pub returns-then-i-n : goal.returns-then-i-n
