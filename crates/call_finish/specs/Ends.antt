@@ -28,6 +28,7 @@ use Rattle.law_bytes.specs.Words.{part}
 use Rattle.law_areas.specs.Logs.{AllFit, log_filled}
 use Rattle.area_lengths.specs.Lent.{lent}
 use Rattle.theory_ledger.specs.Batching.{find_number}
+use Rattle.area_store.specs.declared.Area.TheVariants as spans
 use Rattle.area_store.specs.Lists.{Leads}
 use Rattle.law_bytes.specs.LeftLinks.{left_gone}
 use Rattle.law_areas.specs.WorkPages.{page_there, links_at}
@@ -132,7 +133,7 @@ module _ {n m : ℕ} {wp sp wl sl : List ℕ} {d : Desk} {st : Standing} (g : Gi
 
 module _ {n m : ℕ} {wp sp wl sl : List ℕ} {d : Desk} {st : Standing} (g : Given n m wp sp wl sl d st) (p budget : ℕ) (r : Reply) (few : p < n) where
   -- WRITE-OUT: all that is unstored, and then page p.
-  pub write_out_0 : (sp' sl' : List ℕ) → Leads (record { first = record { pages = false; from = d.stored; count = d.logged - d.stored }; rest = record { pages = true; from = p; count = 1 } }) budget wp wl (lent wp sp wl sl) (lent wp sp' wl sl')
+  pub write_out_0 : (sp' sl' : List ℕ) → Leads (record { first = record { area = spans.Slots; from = d.stored; count = d.logged - d.stored }; rest = record { area = spans.Pages; from = p; count = 1 } }) budget wp wl (lent wp sp wl sl) (lent wp sp' wl sl')
       → r.answer ≡ Done → r.desk ≡ record { rows = d.rows; logged = d.logged; stored = d.logged } → Replies (request (write_out p)) (lent wp sp wl sl) d budget r (lent wp sp' wl sl')
   unfolding run_of read_areas desk_of
   write_out_0 sp' sl' stored a k =

@@ -8,7 +8,7 @@ ghost use Rattle.area_lengths.specs.Lent.{lent};
 ghost use Rattle.call_reply.specs.Replies.{Replies};
 ghost use Rattle.call_slides.specs.Given.{Given};
 
-use area_store::{Span, Stores, store_first, store_slots};
+use area_store::{Area, Span, Stores, store_first, store_slots};
 use call_reply::{Reply, refused};
 use call_slides::{live_row, open_row};
 use call_undo::{abort_run, undo_above};
@@ -134,12 +134,12 @@ pub fn write_out_in(
         → Replies (calls.write_out p) (lent wp.now sp.old wl.now sl.old) d budget result (lent wp.now sp.new wl.now sl.new) }
 {
     let records = Span {
-        pages: false,
+        area: Area::Slots,
         from: d.stored as usize,
         count: (d.logged - d.stored) as usize,
     };
     let page = Span {
-        pages: true,
+        area: Area::Pages,
         from: p as usize,
         count: 1,
     };
