@@ -41,10 +41,9 @@ fn enter(wp: &[u8], sp: &[u8], wl: &[u8], sl: &[u8], d: Desk, p: u32) -> Result<
         return Err(Refusal::PageNumber);
     }
     let slots = wl.len() / SLOT_SIZE;
-    let standing = standing_of(wp, wl, sl, pages, slots, d);
-    if !standing.ok {
+    let Some(standing) = standing_of(wp, wl, sl, pages, slots, d) else {
         return Err(Refusal::Unsound);
-    }
+    };
     Ok(Entry {
         pages,
         slots,

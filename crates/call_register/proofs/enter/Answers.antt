@@ -12,21 +12,19 @@ returns-then-not-lengths_ok c = barred_1 _ _ _ _ _ _ (sym c.lengths_ok.ensures �
 pub returns-then-p-pages : goal.returns-then-p-pages
 returns-then-p-pages c = barred_2 _ _ _ _ _ _ (sym c.lengths_ok.ensures ∙ not-false _ c.if-not-lengths_ok.false-raw) c.if-p-pages.true
 
-pub standing_of-standing-requires : goal.standing_of-standing-requires
-standing_of-standing-requires c =
+pub standing_of-requires : goal.standing_of-requires
+standing_of-requires c =
     let a = c.args in
     let z = lengths_numbers a.wp.now a.sp.now a.wl.now a.sl.now (sym c.lengths_ok.ensures ∙ not-false _ c.if-not-lengths_ok.false-raw) in
     ((z.0, z.2, z.4, z.6), (omega (arith, z.7, z.4), z.6))
 
-pub returns-then-not-standing : goal.returns-then-not-standing
-returns-then-not-standing c =
+pub returns-in_default : goal.returns-in_default
+returns-in_default c =
     let a = c.args in
-    barred_11 a.wp.now a.sp.now a.wl.now a.sl.now a.d a.p (sym c.lengths_ok.ensures ∙ not-false _ c.if-not-lengths_ok.false-raw) (omega (arith, c.if-p-pages.false))
-    (sym (c.standing_of-standing.ensures.ok a.sp.now) ∙ not-true _ c.if-not-standing.true)
+    barred_11 a.wp.now a.sp.now a.wl.now a.sl.now a.d a.p (sym c.lengths_ok.ensures ∙ not-false _ c.if-not-lengths_ok.false-raw) (omega (arith, c.if-p-pages.false)) (c.in_default.ensures a.sp.now)
 
 pub returns : goal.returns
 returns c =
     let a = c.args in
-    let o = not-false _ c.if-not-standing.false in
     entered a.wp.now a.sp.now a.wl.now a.sl.now a.d a.p (sym c.lengths_ok.ensures ∙ not-false _ c.if-not-lengths_ok.false-raw) (omega (arith, c.if-p-pages.false)) _ refl refl
-    (sym (c.standing_of-standing.ensures.ok a.sp.now) ∙ o) (c.standing_of-standing.ensures.known o)
+    (c.in-Some.ensures.0 a.sp.now) c.in-Some.ensures.1
