@@ -11,6 +11,6 @@ pub returns-else-empties : goal.returns-else-empties
 returns-else-empties c =
     let a = c.args in
     elim c.else-empties.branch [
-      else-empties-via-then-empties+else-desk-eq-DESK_SIZE w ↦ other_desk a.empties a.desk.now (neq_false w.if-desk-eq-DESK_SIZE.false)
-    | else-empties-via-else-empties w ↦ same_desk a.empties a.desk.now w.if-empties.false (λ i. (c.type_inv.desk i).fits)
+      | else-empties-via-then-empties+else-desk-eq-DESK_SIZE w ↦ other_desk a.empties a.desk.now (neq_false w.if-desk-eq-DESK_SIZE.false)
+      | else-empties-via-else-empties w ↦ same_desk a.empties a.desk.now w.if-empties.false (λ i. (c.type_inv.desk i).fits)
     ]
