@@ -9,7 +9,7 @@ use codec_bytes::get32;
 use def_layout::{SLOT_SIZE, slot};
 
 // A pending update, and the number of the one below it in its batch.
-#[derive(Clone, Copy)]
+#[derive(Clone, Copy, Default)]
 pub struct Line {
     pub number: u32,
     pub adds: bool,
@@ -30,6 +30,7 @@ fn pending_after(log: &[u8], m: usize, p: u32) -> u32
     if i >= m {
         return 0;
     }
+    // A rule of the project: 01 names a match on the kinds 1 to 15, so the kind stays a number.
     let kind = get32(log, SLOT_SIZE * i) / slot::KIND_UNIT;
     match kind {
         2..=3 => p,
@@ -38,24 +39,18 @@ fn pending_after(log: &[u8], m: usize, p: u32) -> u32
     }
 }
 
-// The pending update that is record `number`. Of a number that is no slot's there is none.
+// The pending update that is record `number`. Of a number that is no slot's it says nothing. No Option, which would be no plainer: a batch's row says
+// how many lines are pending and which is the newest, so every caller knows that this one is there, and an arm for none would never run.
 pub fn line_at(log: &[u8], m: usize, number: u32) -> Line
     requires { HasSlots m log.now }
     ensures { TellsLine m log.now number result }
 {
-    let none = Line {
-        number: 0,
-        adds: false,
-        key: 0,
-        value: 0,
-        below: 0,
-    };
     if number == 0 {
-        return none;
+        return Line::default();
     }
     let i = number as usize - 1;
     if i >= m {
-        return none;
+        return Line::default();
     }
     let kind = get32(log, SLOT_SIZE * i) / slot::KIND_UNIT;
     let key = get32(log, SLOT_SIZE * i + slot::KEY_AT);

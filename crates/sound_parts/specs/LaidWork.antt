@@ -1,9 +1,9 @@
 -- Working pages that all keep the layout (02, U5): the bytes of typed pages and of their left links.
-use Rattle.std.specs.Prelude.{◌≡◌, refl, ℕ, zero, suc, ◌*◌, ◌/◌, Bool, true, false, ◌&&◌, List, [], ◌∷◌, ◌++◌, map, length, take, drop, eqb}
+use Rattle.std.specs.Prelude.{◌≡◌, refl, ℕ, zero, suc, ◌*◌, ◌/◌, true, false, ◌&&◌, List, [], ◌∷◌, ◌++◌, map, length, take, drop, eqb}
 use Rattle.std.proofs.Common.{ap, ap₂, sym, ◌∙◌, subst, arith, length-drop, take-append-drop}
 use Rattle.def_base.specs.Tests.{and_true, Case, yes!, no!, case, true_eq, clash}
 use Rattle.def_layout.specs.Numbers.{be32, put32, same_bytes}
-use Rattle.def_layout.specs.Pages.{Page, PageKind, page_kind}
+use Rattle.def_layout.specs.Pages.{page_kind}
 use Rattle.def_layout.specs.PageBytes.{Block, page, page_bytes, page_fields, block_bytes, read_block, left_by, left_in, without_left, with_left}
 use Rattle.def_layout.specs.Sizes.{page_size}
 use Rattle.def_model.specs.Areas.{block_ok, blocks_ok}

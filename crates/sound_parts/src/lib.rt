@@ -38,12 +38,10 @@ pub fn layouts_ok(pages: &[u8], n: usize, working: bool) -> bool
     requires { HasPages n pages.now }
     ensures { result ≡ blocks_ok n 0 (blocks_by working n pages.now) }
 {
-    let mut p = 0;
-    while p < n {
+    for p in 0..n {
         if !page_at_ok(pages, n, p, working) {
             return false;
         }
-        p += 1;
     }
     true
 }
@@ -53,12 +51,10 @@ pub fn numbers_ok(pages: &[u8], n: usize, last: u32) -> bool
     requires { HasPages n pages.now }
     ensures { result ≡ numbers_ok last (pages_of n pages.now) }
 {
-    let mut p = 0;
-    while p < n {
+    for p in 0..n {
         if last < get32(pages, PAGE_SIZE * p + page::LSN_AT) {
             return false;
         }
-        p += 1;
     }
     true
 }
@@ -92,43 +88,11 @@ pub fn stored_ok(wl: &[u8], sl: &[u8], m: usize, logged: u32, stored: u32) -> bo
     zero_from(sl, a)
 }
 
-fn same_row(x: Row, y: Row) -> bool
-    ensures { result ≡ same_row x y }
-{
-    if x.batch != y.batch {
-        return false;
-    }
-    if x.last != y.last {
-        return false;
-    }
-    if x.undo != y.undo {
-        return false;
-    }
-    x.pending == y.pending
-}
-
-fn same_rows(xs: [Row; 8], ys: [Row; 8]) -> bool
-    ensures { result ≡ same_rows xs ys }
-{
-    let mut i = 0;
-    while i < 8 {
-        if !same_row(xs[i], ys[i]) {
-            return false;
-        }
-        i += 1;
-    }
-    true
-}
-
 // The desk has these rows and this count of records, which are what the working log says.
 pub fn desk_is(d: Desk, rows: [Row; 8], logged: u32) -> bool
     ensures { result ≡ same_desk d (desk_with rows logged d.stored) }
 {
-    let own = d.rows;
-    if !same_rows(own, rows) {
-        return false;
-    }
-    d.logged == logged
+    d == Desk { rows, logged, ..d }
 }
 
 // "reserves mean u + 32p + 2b at most the slots and at least 7p free pages".

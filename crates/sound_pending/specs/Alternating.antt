@@ -1,9 +1,10 @@
 -- "pending records on a key alternate, a delete after an insert has its value": each line with the newest below it on its key.
 use Rattle.std.specs.Prelude.{ℕ, ◌-◌, ◌≡◌, Bool, not, List, take, eqb}
 use Rattle.std.proofs.Math.Path.{refl, sym, ap}
-use Rattle.std.proofs.Common.{◌∙◌, subst, arith}
+use Rattle.std.proofs.Common.{◌∙◌, subst}
 use Rattle.std.proofs.Math.Option.{Option, none, some}
 use Rattle.std.proofs.Math.Bool.{true, false}
+use Rattle.std.specs.Prelude as code
 use Rattle.def_layout.specs.Records.{Rec}
 use Rattle.def_model.specs.Batches.{Line}
 use Rattle.def_model.specs.Pending.{newest_on, alternates, lines_alternate}
@@ -15,32 +16,31 @@ use Rattle.sound_pending.specs.Walks.{Question, Here, Asked, Walking, walk_start
 use Rattle.sound_pending.specs.Keys.{Plain, NewestIs, NewestSays}
 
 -- A line and the newest below it on its key, as the program has them.
-abbrev pub Alternates : program.Line → program.Line → Bool → Type 0
+abbrev pub Alternates : program.Line → code.Option program.Line → Bool → Type 0
 Alternates x older r = (y : Line) (ys : List Line) (o : Option Line) → x ≡ shown_line y ys → NewestIs older o → r ≡ alternates y o
 
+pub alternates_none : (x : program.Line) → Alternates x code.None true
+unfolding NewestIs alternates
+alternates_none x y ys none s n = refl
+alternates_none x y ys (some o) s n = absurd n
+
 module _ (x older : program.Line) where
-  pub alternates_none : older.number ≡ 0 → Alternates x older true
+  pub alternates_insert : x.adds ≡ true → Alternates x (code.Some older) (not older.adds)
   unfolding NewestIs alternates
-  alternates_none z y ys none s n = refl
-  alternates_none z y ys (some o) s n = absurd (omega (arith, z, n.0))
+  alternates_insert a y ys none s n = absurd n
+  alternates_insert a y ys (some o) s n = rw (sym (ap (λ (p : program.Line). p.adds) s) ∙ a, n.0)
 
-  module _ (z : older.number ≡ 0 → ⊥) where
-    pub alternates_insert : x.adds ≡ true → Alternates x older (not older.adds)
+  module _ (a : x.adds ≡ false) where
+    pub alternates_two : older.adds ≡ false → Alternates x (code.Some older) false
     unfolding NewestIs alternates
-    alternates_insert a y ys none s n = absurd (z n)
-    alternates_insert a y ys (some o) s n = rw (sym (ap (λ (p : program.Line). p.adds) s) ∙ a, n.1)
+    alternates_two c y ys none s n = absurd n
+    alternates_two c y ys (some o) s n = rw (sym (ap (λ (p : program.Line). p.adds) s) ∙ a, sym n.0 ∙ c)
 
-    module _ (a : x.adds ≡ false) where
-      pub alternates_two : older.adds ≡ false → Alternates x older false
-      unfolding NewestIs alternates
-      alternates_two c y ys none s n = absurd (z n)
-      alternates_two c y ys (some o) s n = rw (sym (ap (λ (p : program.Line). p.adds) s) ∙ a, sym n.1 ∙ c)
-
-      pub alternates_delete : older.adds ≡ true → Alternates x older (eqb x.value older.value)
-      unfolding NewestIs alternates
-      alternates_delete c y ys none s n = absurd (z n)
-      alternates_delete c y ys (some o) s n =
-          rw (sym (ap (λ (p : program.Line). p.adds) s) ∙ a, sym n.1 ∙ c, ap (λ (p : program.Line). p.value) s, n.2)
+    pub alternates_delete : older.adds ≡ true → Alternates x (code.Some older) (eqb x.value older.value)
+    unfolding NewestIs alternates
+    alternates_delete c y ys none s n = absurd n
+    alternates_delete c y ys (some o) s n =
+        rw (sym (ap (λ (p : program.Line). p.adds) s) ∙ a, sym n.0 ∙ c, ap (λ (p : program.Line). p.value) s, n.1)
 
 -- The walk over a batch's lines.
 abbrev alternating : Unit {0} → Question Bool
@@ -61,7 +61,7 @@ module _ (m : ℕ) (b : List ℕ) (from count : ℕ) where
     unfolding lines_alternate
     alternate_end z = walk_end Plain alternating m b from count (λ i v. true ≡ v) at left w z (λ i ls. refl)
 
-    module _ (z : left ≡ 0 → ⊥) (x : program.Line) (t : TellsLine m b at x) (older : program.Line) (f : NewestSays x.key m b x.below (left - 1) older)
+    module _ (z : left ≡ 0 → ⊥) (x : program.Line) (t : TellsLine m b at x) (older : code.Option program.Line) (f : NewestSays x.key m b x.below (left - 1) older)
         (r : Bool) (a : Alternates x older r) where
       says : (l : List Rec) (ls : List Line) (y : Line) (ys : List Line) → Reads m b l → Here Plain alternating m b from count at left w z x t l ls y ys
           → r ≡ alternates y (newest_on y.key (take (left - 1) ys))

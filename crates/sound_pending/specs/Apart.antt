@@ -1,9 +1,10 @@
 -- "pending records on a key are of one batch": no line of a later batch has a key that this batch's lines have.
-use Rattle.std.specs.Prelude.{ℕ, ◌+◌, ◌-◌, ◌≤◌, ◌<◌, ◌≡◌, Bool, not, ◌&&◌, List, length, take, drop, eqb}
+use Rattle.std.specs.Prelude.{ℕ, ◌+◌, ◌-◌, ◌≤◌, ◌<◌, ◌≡◌, Bool, not, ◌&&◌, ◌||◌, List, [], ◌∷◌, length, take, drop, eqb}
 use Rattle.std.proofs.Math.Path.{refl, sym, ap}
 use Rattle.std.proofs.Common.{◌∙◌, arith, drop_of_length-le}
 use Rattle.std.proofs.Math.Bool.{true, false}
 use Rattle.std.proofs.Math.Seq.{take-length}
+use Rattle.std.specs.Prelude as code
 use Rattle.def_base.specs.Tests.{any, every}
 use Rattle.def_layout.specs.declared.Row.{Row}
 use Rattle.def_layout.specs.Desks.{row_at}
@@ -13,9 +14,8 @@ use Rattle.def_model.specs.Pending.{apart}
 use Rattle.log_pending.specs.declared.Line as program
 use Rattle.log_pending.specs.Below.{Linked}
 use Rattle.log_pending.specs.Reading.{Reads}
-use Rattle.log_pending.specs.Lines.{TellsLine}
-use Rattle.sound_pending.specs.Walks.{Question, Here, Asked, Walking, walk_start, walk_end, walk_on, walk_out}
-use Rattle.sound_pending.specs.Keys.{KeysSay}
+use Rattle.sound_pending.specs.Walks.{Question, Asked}
+use Rattle.sound_pending.specs.Keys.{FirstSays, KeysSay, keys_say}
 use Rattle.sound_pending.specs.Rows.{Known, batch_at, row_known, batch_linked, every_at}
 
 -- No line has one of the keys of `own`.
@@ -38,37 +38,32 @@ free own all left ls = free_of own ls
 abbrev pub FreeSays : ℕ → List ℕ → Row → ℕ → ℕ → Bool → Type 0
 FreeSays m b row from count r = Asked (OfRow row) free m b from count (λ i v. r ≡ v)
 
-abbrev pub FreeLeft : ℕ → List ℕ → Row → ℕ → ℕ → ℕ → ℕ → Type 0
-FreeLeft m b row from count at left = Walking (OfRow row) free m b from count at left
+-- Whether some line of the row has the key, as the program finds it.
+pub own_says : (m : ℕ) (b : List ℕ) (row : Row) (own : List Line) (l : List Rec) → OfRow row own l → Reads m b l
+    → (key : ℕ) (r : Bool) → KeysSay (λ k. eqb key k) m b row.undo row.pending r → r ≡ any (λ a. eqb key a.key) own
+own_says m b row own l q e key r f =
+    f tt l own tt e q.linked q.newest (omega (arith, q.size))
+    ∙ ap (λ (k : List Line). any (λ a. eqb key a.key) k) (ap (λ (k : ℕ). take k own) q.size ∙ take-length own)
 
-module _ (m : ℕ) (b : List ℕ) (row : Row) (from count : ℕ) where
-  pub free_start : FreeLeft m b row from count from count
-  free_start = walk_start (OfRow row) free m b from count
+none_has : (own ls : List Line) → not (any (λ x. any (λ y. eqb x.key y.key) own) ls) ≡ free_of own ls
+unfolding any every
+none_has own [] = refl
+none_has own (x ∷ ls) = go (any (λ y. eqb x.key y.key) own) (none_has own ls)
+  where
+    go : (t : Bool) → not (any (λ x. any (λ y. eqb x.key y.key) own) ls) ≡ free_of own ls → not (t || any (λ x. any (λ y. eqb x.key y.key) own) ls) ≡ not t && free_of own ls
+    go true i = refl
+    go false i = i
 
-  module _ (at left : ℕ) (w : FreeLeft m b row from count at left) where
-    pub free_end : left ≡ 0 → FreeSays m b row from count true
-    unfolding every
-    free_end z = walk_end (OfRow row) free m b from count (λ i v. true ≡ v) at left w z (λ i ls. refl)
+flip : (v t : Bool) → t ≡ not v → not t ≡ v
+flip true t e = ap not e
+flip false t e = ap not e
 
-    module _ (z : left ≡ 0 → ⊥) (x : program.Line) (t : TellsLine m b at x) (r : Bool) (f : KeysSay (λ key. eqb x.key key) m b row.undo row.pending r) where
-      says : (own : List Line) (l : List Rec) (ls : List Line) (y : Line) (ys : List Line) → OfRow row own l → Reads m b l
-          → Here (OfRow row) free m b from count at left w z x t l ls y ys → r ≡ any (λ a. eqb y.key a.key) own
-      says own l ls y ys q e o =
-          f tt l own tt e q.linked q.newest (omega (arith, q.size))
-          ∙ ap (λ (k : List Line). any (λ a. eqb x.key a.key) k) (ap (λ (k : ℕ). take k own) q.size ∙ take-length own)
-          ∙ ap (λ (k : ℕ). any (λ a. eqb k a.key) own) (ap (λ (p : program.Line). p.key) o.shown)
-
-      pub free_off : r ≡ true → FreeSays m b row from count false
-      unfolding every
-      free_off c =
-          walk_out (OfRow row) free m b from count at left w z x t (λ i v. false ≡ v)
-          (λ own l ls y ys q e n h o. sym (rw (sym (says own l ls y ys q e o) ∙ c)))
-
-      pub free_on : r ≡ false → FreeLeft m b row from count x.below (left - 1)
-      unfolding every
-      free_on c =
-          walk_on (OfRow row) free m b from count at left w z x t
-          (λ own l ls y ys q e n h o. rw (sym (says own l ls y ys q e o) ∙ c))
+-- None has one of the row's keys, where the program finds none.
+pub free_says : (m : ℕ) (b : List ℕ) (row : Row) (from count : ℕ) (r : code.Option program.Line)
+    → ((own : List Line) (l : List Rec) → OfRow row own l → Reads m b l → FirstSays (λ key. any (λ y. eqb key y.key) own) m b from count r)
+    → (v : Bool) → code.is_some r ≡ not v → FreeSays m b row from count v
+free_says m b row from count r f v s own l ls q e h n k =
+    sym (flip v (code.is_some r) s) ∙ ap not (keys_say (λ key. any (λ y. eqb key y.key) own) m b from count r (f own l q e) tt l ls tt e h n k) ∙ none_has own (take count ls)
 
 -- ---- row i against the rows behind it
 

@@ -1,21 +1,71 @@
 -- Keys among a batch's pending lines: whether one of them has it, and which is the newest that does.
-use Rattle.std.specs.Prelude.{ℕ, ◌+◌, ◌-◌, ◌<◌, ◌≡◌, refl, Bool, ◌&&◌, List, eqb, leb, ltb}
+use Rattle.std.specs.Prelude.{ℕ, ◌+◌, ◌-◌, ◌<◌, ◌≡◌, refl, Bool, ◌&&◌, ◌||◌, List, [], ◌∷◌, take, eqb, leb, ltb}
 use Rattle.std.proofs.Math.Path.{sym, ap, fun_ext}
 use Rattle.std.proofs.Common.{◌∙◌, subst, arith, ne_eqb}
 use Rattle.std.proofs.Math.Option.{Option, none, some}
 use Rattle.std.proofs.Math.Bool.{true, false}
 use Rattle.std.proofs.Math.Decide.{dec_lt}
-use Rattle.def_base.specs.Tests.{any, eq_true, neq_false, le_true, le_false, lt_true, lt_false}
+use Rattle.std.specs.Prelude as code
+use Rattle.def_base.specs.Tests.{pick, any, eq_true, le_true, le_false, lt_true, lt_false}
 use Rattle.def_layout.specs.Records.{Rec}
 use Rattle.def_model.specs.Batches.{Line}
 use Rattle.def_model.specs.Pending.{newest_on}
 use Rattle.log_pending.specs.declared.Line as program
-use Rattle.log_pending.specs.Lines.{shown_line, stands, TellsLine}
+use Rattle.log_pending.specs.Lines.{TellsLine}
 use Rattle.sound_pending.specs.Walks.{Question, Asked, Walking, walk_start, walk_end, walk_on, walk_out}
 
 -- Nothing more is known.
 abbrev pub Plain : Unit {0} → List Rec → Type 0
 Plain i l = Unit {0}
+
+-- ---- the newest line whose key is of a kind
+
+-- A closure's answers are g's.
+abbrev pub TestsBy : (ℕ → Bool → Type 0) → (ℕ → Bool) → Type 0
+TestsBy post g = (key : ℕ) (r : Bool) → post key r → r ≡ g key
+
+-- None just where there is none; else what the line adds or takes away, and its value.
+unfoldable pub NewestIs : code.Option program.Line → Option Line → Type 0
+NewestIs code.None none = Unit {0}
+NewestIs code.None (some y) = ⊥
+NewestIs (code.Some r) none = ⊥
+NewestIs (code.Some r) (some y) = (r.adds ≡ y.adds) × (r.value ≡ y.value)
+
+unfoldable pub first_of : (ℕ → Bool) → List Line → Option Line
+first_of g [] = none
+first_of g (x ∷ ls) = pick (g x.key) (some x) (first_of g ls)
+
+abbrev pub first_with : (ℕ → Bool) → Unit {0} → Question (Option Line)
+first_with g i all left ls = first_of g ls
+
+abbrev pub FirstSays : (ℕ → Bool) → ℕ → List ℕ → ℕ → ℕ → code.Option program.Line → Type 0
+FirstSays g m b from count r = Asked Plain (first_with g) m b from count (λ i v. NewestIs r v)
+
+abbrev pub FirstLeft : (ℕ → Bool) → ℕ → List ℕ → ℕ → ℕ → ℕ → ℕ → Type 0
+FirstLeft g m b from count at left = Walking Plain (first_with g) m b from count at left
+
+module _ (g : ℕ → Bool) (m : ℕ) (b : List ℕ) (from count : ℕ) where
+  pub first_start : FirstLeft g m b from count from count
+  first_start = walk_start Plain (first_with g) m b from count
+
+  module _ (at left : ℕ) (w : FirstLeft g m b from count at left) where
+    pub first_none : left ≡ 0 → FirstSays g m b from count code.None
+    unfolding first_of NewestIs
+    first_none z = walk_end Plain (first_with g) m b from count (λ i v. NewestIs code.None v) at left w z (λ i ls. tt)
+
+    module _ (z : left ≡ 0 → ⊥) (x : program.Line) (t : TellsLine m b at x) where
+      pub first_hit : g x.key ≡ true → FirstSays g m b from count (code.Some x)
+      unfolding first_of NewestIs
+      first_hit e =
+          walk_out Plain (first_with g) m b from count at left w z x t (λ i v. NewestIs (code.Some x) v)
+          (λ i l ls y ys q rd n h o.
+          rw (sym (ap (λ (p : program.Line). g p.key) o.shown) ∙ e) (ap (λ (a : program.Line). a.adds) o.shown, ap (λ (a : program.Line). a.value) o.shown))
+
+      pub first_further : g x.key ≡ false → FirstLeft g m b from count x.below (left - 1)
+      unfolding first_of
+      first_further e =
+          walk_on Plain (first_with g) m b from count at left w z x t
+          (λ i l ls y ys q rd n h o. rw (sym (ap (λ (p : program.Line). g p.key) o.shown) ∙ e))
 
 -- ---- whether some line's key is of a kind
 
@@ -25,30 +75,20 @@ some_key g i all left ls = any (λ x. g x.key) ls
 abbrev pub KeysSay : (ℕ → Bool) → ℕ → List ℕ → ℕ → ℕ → Bool → Type 0
 KeysSay g m b from count r = Asked Plain (some_key g) m b from count (λ i v. r ≡ v)
 
-abbrev pub KeysLeft : (ℕ → Bool) → ℕ → List ℕ → ℕ → ℕ → ℕ → ℕ → Type 0
-KeysLeft g m b from count at left = Walking Plain (some_key g) m b from count at left
+some_first : (g : ℕ → Bool) (ls : List Line) (r : code.Option program.Line) → NewestIs r (first_of g ls) → code.is_some r ≡ any (λ x. g x.key) ls
+unfolding NewestIs first_of any
+some_first g [] code.None n = refl
+some_first g [] (code.Some r) n = absurd n
+some_first g (x ∷ ls) r n = go (g x.key) (some_first g ls) r n
+  where
+    go : (t : Bool) → ((r : code.Option program.Line) → NewestIs r (first_of g ls) → code.is_some r ≡ any (λ x. g x.key) ls)
+        → (r : code.Option program.Line) → NewestIs r (pick t (some x) (first_of g ls)) → code.is_some r ≡ t || any (λ x. g x.key) ls
+    go true i code.None n = absurd n
+    go true i (code.Some r) n = refl
+    go false i r n = i r n
 
-module _ (g : ℕ → Bool) (m : ℕ) (b : List ℕ) (from count : ℕ) where
-  pub keys_start : KeysLeft g m b from count from count
-  keys_start = walk_start Plain (some_key g) m b from count
-
-  module _ (at left : ℕ) (w : KeysLeft g m b from count at left) where
-    pub keys_end : left ≡ 0 → KeysSay g m b from count false
-    unfolding any
-    keys_end z = walk_end Plain (some_key g) m b from count (λ i v. false ≡ v) at left w z (λ i ls. refl)
-
-    module _ (z : left ≡ 0 → ⊥) (x : program.Line) (t : TellsLine m b at x) where
-      pub keys_hit : g x.key ≡ true → KeysSay g m b from count true
-      unfolding any
-      keys_hit e =
-          walk_out Plain (some_key g) m b from count at left w z x t (λ i v. true ≡ v)
-          (λ i l ls y ys q rd n h o. sym (rw (sym (ap (λ (p : program.Line). g p.key) o.shown) ∙ e)))
-
-      pub keys_on : g x.key ≡ false → KeysLeft g m b from count x.below (left - 1)
-      unfolding any
-      keys_on e =
-          walk_on Plain (some_key g) m b from count at left w z x t
-          (λ i l ls y ys q rd n h o. rw (sym (ap (λ (p : program.Line). g p.key) o.shown) ∙ e))
+pub keys_say : (g : ℕ → Bool) (m : ℕ) (b : List ℕ) (from count : ℕ) (r : code.Option program.Line) → FirstSays g m b from count r → KeysSay g m b from count (code.is_some r)
+keys_say g m b from count r f i l ls q e h n c = some_first g (take count ls) r (f i l ls q e h n c)
 
 -- ---- keys of a range
 
@@ -85,46 +125,19 @@ key_says k m b from count r = subst (λ (g : ℕ → Bool). KeysSay g m b from c
 
 -- ---- the newest line on a key
 
--- Number 0 stands for none.
-unfoldable pub NewestIs : program.Line → Option Line → Type 0
-NewestIs r none = r.number ≡ 0
-NewestIs r (some y) = (0 < r.number) × (r.adds ≡ y.adds) × (r.value ≡ y.value)
-
 abbrev pub newest : ℕ → Unit {0} → Question (Option Line)
 newest k i all left ls = newest_on k ls
 
-abbrev pub NewestSays : ℕ → ℕ → List ℕ → ℕ → ℕ → program.Line → Type 0
+abbrev pub NewestSays : ℕ → ℕ → List ℕ → ℕ → ℕ → code.Option program.Line → Type 0
 NewestSays k m b from count r = Asked Plain (newest k) m b from count (λ i v. NewestIs r v)
 
-abbrev pub NewestLeft : ℕ → ℕ → List ℕ → ℕ → ℕ → ℕ → ℕ → Type 0
-NewestLeft k m b from count at left = Walking Plain (newest k) m b from count at left
+first_newest : (k : ℕ) (ls : List Line) → first_of (λ key. eqb k key) ls ≡ newest_on k ls
+unfolding first_of newest_on
+first_newest k [] = refl
+first_newest k (x ∷ ls) = ap (λ (o : Option Line). pick (eqb k x.key) (some x) o) (first_newest k ls)
 
-module _ (k m : ℕ) (b : List ℕ) (from count : ℕ) where
-  pub newest_start : NewestLeft k m b from count from count
-  newest_start = walk_start Plain (newest k) m b from count
-
-  module _ (at left : ℕ) (w : NewestLeft k m b from count at left) where
-    pub newest_none : (r : program.Line) → r.number ≡ 0 → left ≡ 0 → NewestSays k m b from count r
-    unfolding newest_on NewestIs
-    newest_none r n z = walk_end Plain (newest k) m b from count (λ i v. NewestIs r v) at left w z (λ i ls. n)
-
-    module _ (z : left ≡ 0 → ⊥) (x : program.Line) (t : TellsLine m b at x) where
-      -- The key of the line that was read.
-      same_key : (y : Line) (ys : List Line) → x ≡ shown_line y ys → x.key ≡ y.key
-      same_key y ys s = ap (λ (p : program.Line). p.key) s
-
-      pub newest_hit : x.key ≡ k → NewestSays k m b from count x
-      unfolding newest_on NewestIs
-      newest_hit e =
-          walk_out Plain (newest k) m b from count at left w z x t (λ i v. NewestIs x v)
-          (λ i l ls y ys q rd n h o.
-          rw (eq_true k y.key (sym e ∙ same_key y ys o.shown)) (omega (arith, ap (λ (a : program.Line). a.number) o.shown, (stands l y ys o.linked).from_one), ap (λ (a : program.Line). a.adds) o.shown, ap (λ (a : program.Line). a.value) o.shown))
-
-      pub newest_further : (x.key ≡ k → ⊥) → NewestLeft k m b from count x.below (left - 1)
-      unfolding newest_on
-      newest_further e =
-          walk_on Plain (newest k) m b from count at left w z x t
-          (λ i l ls y ys q rd n h o. rw (neq_false (λ (d : k ≡ y.key). e (same_key y ys o.shown ∙ sym d))))
+pub newest_says : (k m : ℕ) (b : List ℕ) (from count : ℕ) (r : code.Option program.Line) → FirstSays (λ key. eqb k key) m b from count r → NewestSays k m b from count r
+newest_says k m b from count r f i l ls q e h n c = subst (NewestIs r) (first_newest k (take count ls)) (f i l ls q e h n c)
 
 pub below : (low last : ℕ) → from_to low last ≡ (λ key. leb low key && ltb key (last + 1))
 below low last = fun_ext same

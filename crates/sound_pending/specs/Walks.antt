@@ -1,5 +1,5 @@
 -- A walk over a batch's pending lines through the log: whatever is asked of the lines, what is left to ask is asked of the rest.
-use Prim.Native.Nat.{ℕ, suc, ◌+◌, ◌-◌, ◌≤◌}
+use Prim.Native.Nat.{ℕ, suc, ◌+◌, ◌-◌, ◌≤◌, ◌<◌}
 use Rattle.std.specs.Prelude.{◌≡◌, refl, length, drop}
 use Rattle.std.proofs.Math.Path.{sym, ap}
 use Rattle.std.proofs.Common.{◌∙◌, subst, arith, drop-drop}
@@ -111,3 +111,24 @@ module _ {I A : Type 0} (Q : I → List Rec → Type 0) (F : I → Question A) (
         let k = w i l ls q e h n c in
         let d = found_there i l ls e c k in
         subst (P i) (sym (k.same ∙ ap (F i ls left) d.taken)) (v i l ls d.line d.under q e n h d.known)
+
+-- ---- a walk by the number of lines passed
+
+module _ (P : ℕ → Type 0) (count : ℕ) where
+  pub none_passed : P count → P (count - 0)
+  none_passed = subst P (e count)
+    where
+      e : (k : ℕ) → k ≡ k - 0
+      e k = omega arith
+
+  pub one_passed : (passed : ℕ) → P (count - passed - 1) → P (count - (passed + 1))
+  one_passed passed = subst P (e count passed)
+    where
+      e : (k n : ℕ) → k - n - 1 ≡ k - (n + 1)
+      e k n = omega arith
+
+  pub passed_of : (passed : ℕ) → passed < count → P passed → P (count - (count - passed))
+  passed_of passed h = subst P (e count passed h)
+    where
+      e : (k n : ℕ) → n < k → n ≡ k - (k - n)
+      e k n h = omega arith

@@ -1,9 +1,9 @@
 // Held keys and the pending rule, over the pending lines that the log leads to.
 #![tactic(auto)]
 
-ghost use Rattle.std.specs.Prelude.{◌≡◌, ◌<◌, eqb};
+ghost use Rattle.std.specs.Prelude.{◌≡◌, ◌<◌, ℕ, Bool, eqb};
 ghost use Rattle.law_bytes.specs.AreaSizes.{HasPages, HasSlots, HasAreas};
-ghost use Rattle.sound_pending.specs.Keys.{from_to, KeysSay, NewestSays};
+ghost use Rattle.sound_pending.specs.Keys.{from_to, TestsBy, FirstSays, KeysSay, NewestSays};
 ghost use Rattle.sound_pending.specs.Rows.{RowKeys, DeskKeys, HeldIs, HeldBetweenIs, HeldFromIs};
 ghost use Rattle.sound_pending.specs.Alternating.{Alternates, AlternateSays};
 ghost use Rattle.sound_pending.specs.Apart.{FreeSays, ApartIs};
@@ -13,7 +13,7 @@ ghost use Rattle.sound_pending.specs.Rule.{BatchIs, RuleIs};
 
 use def_layout::{Desk, Row};
 use log_pending::{Line, line_at};
-use tree_lookup::{Value, fetched};
+use tree_lookup::fetched;
 
 // Whether a key lies from `first` up to `last`; `first` is a wider number, so that nothing from there on may be a key.
 fn within(first: u64, key: u32, last: u32) -> bool
@@ -25,22 +25,35 @@ fn within(first: u64, key: u32, last: u32) -> bool
     key <= last
 }
 
-// Whether one of `count` lines, down from number `from`, has such a key.
+// The newest of `count` lines, down from number `from`, whose key passes the test.
+fn newest_with<F: Fn(u32) -> bool>(
+    log: &[u8],
+    m: usize,
+    from: u32,
+    count: u32,
+    test: F,
+) -> Option<Line>
+    requires slots { HasSlots m log.now }
+    requires callable { F.IsAlwaysCallable test }
+    ensures { (g : ℕ → Bool) → TestsBy (F.post test) g → FirstSays g m log.now from count result }
+{
+    let mut at = from;
+    for passed in 0..count {
+        let x = line_at(log, m, at);
+        if test(x.key) {
+            return Some(x);
+        }
+        at = x.below;
+    }
+    None
+}
+
+// Whether one of them has a key of the range.
 fn has_within(log: &[u8], m: usize, from: u32, count: u32, first: u64, last: u32) -> bool
     requires { HasSlots m log.now }
     ensures { KeysSay (from_to first last) m log.now from count result }
 {
-    let mut at = from;
-    let mut left = count;
-    while left > 0 {
-        let x = line_at(log, m, at);
-        if within(first, x.key, last) {
-            return true;
-        }
-        at = x.below;
-        left -= 1;
-    }
-    false
+    newest_with(log, m, from, count, |key| within(first, key, last)).is_some()
 }
 
 // Whether one of them has key k.
@@ -51,28 +64,12 @@ fn has_key(log: &[u8], m: usize, from: u32, count: u32, k: u32) -> bool
     has_within(log, m, from, count, k as u64, k)
 }
 
-// The newest of them on key k; number 0 if there is none.
-fn newest_on(log: &[u8], m: usize, from: u32, count: u32, k: u32) -> Line
+// The newest of them on key k.
+fn newest_on(log: &[u8], m: usize, from: u32, count: u32, k: u32) -> Option<Line>
     requires { HasSlots m log.now }
     ensures { NewestSays k m log.now from count result }
 {
-    let mut at = from;
-    let mut left = count;
-    while left > 0 {
-        let x = line_at(log, m, at);
-        if x.key == k {
-            return x;
-        }
-        at = x.below;
-        left -= 1;
-    }
-    Line {
-        number: 0,
-        adds: false,
-        key: 0,
-        value: 0,
-        below: 0,
-    }
+    newest_with(log, m, from, count, |key| k == key)
 }
 
 // The row's batch is another than n, and has a key from `first` up to `last` pending.
@@ -90,12 +87,10 @@ fn held_within(log: &[u8], m: usize, d: Desk, n: u32, first: u64, last: u32) -> 
     requires { HasSlots m log.now }
     ensures { DeskKeys (from_to first last) m log.now d.rows n result }
 {
-    let mut i = 0;
-    while i < 8 {
-        if row_has_within(log, m, d.rows[i], n, first, last) {
+    for row in &d.rows {
+        if row_has_within(log, m, *row, n, first, last) {
             return true;
         }
-        i += 1;
     }
     false
 }
@@ -128,12 +123,12 @@ pub fn held_from(log: &[u8], m: usize, d: Desk, n: u32, low: u32, high: u32) -> 
 }
 
 // A line and the newest below it on its key, if there is one.
-fn alternates(x: Line, older: Line) -> bool
-    ensures { Alternates x older result }
+fn alternates(x: Line, newest: Option<Line>) -> bool
+    ensures { Alternates x newest result }
 {
-    if older.number == 0 {
+    let Some(older) = newest else {
         return true;
-    }
+    };
     if x.adds {
         return !older.adds;
     }
@@ -149,15 +144,13 @@ fn lines_alternate(log: &[u8], m: usize, from: u32, count: u32) -> bool
     ensures { AlternateSays m log.now from count result }
 {
     let mut at = from;
-    let mut left = count;
-    while left > 0 {
+    for passed in 0..count {
         let x = line_at(log, m, at);
-        let older = newest_on(log, m, x.below, left - 1, x.key);
+        let older = newest_on(log, m, x.below, count - passed - 1, x.key);
         if !alternates(x, older) {
             return false;
         }
         at = x.below;
-        left -= 1;
     }
     true
 }
@@ -167,17 +160,17 @@ fn lines_free(log: &[u8], m: usize, row: Row, from: u32, count: u32) -> bool
     requires { HasSlots m log.now }
     ensures { FreeSays m log.now row from count result }
 {
-    let mut at = from;
-    let mut left = count;
-    while left > 0 {
-        let x = line_at(log, m, at);
-        if has_key(log, m, row.undo, row.pending, x.key) {
-            return false;
-        }
-        at = x.below;
-        left -= 1;
-    }
-    true
+    newest_with(
+        log,
+        m,
+        from,
+        count,
+        |key| -> bool
+            requires { HasSlots m log.now }
+            ensures { KeysSay (λ k. eqb key k) m log.entry.now row.undo row.pending result }
+        { has_key(log, m, row.undo, row.pending, key) },
+    )
+    .is_none()
 }
 
 // 01: "pending records on a key are of one batch": row i against those behind it.
@@ -186,13 +179,11 @@ fn row_apart(log: &[u8], m: usize, rows: [Row; 8], i: usize) -> bool
     ensures { ApartIs m log.now rows i result }
 {
     let row = rows[i];
-    let mut j = i + 1;
-    while j < 8 {
+    for j in i + 1..8 {
         let other = rows[j];
         if !lines_free(log, m, row, other.undo, other.pending) {
             return false;
         }
-        j += 1;
     }
     true
 }
@@ -202,8 +193,7 @@ fn agrees(pages: &[u8], n: usize, x: Line) -> bool
     requires { HasPages n pages.now }
     ensures { Agrees (pages_of n pages.now) x result }
 {
-    let v = fetched(pages, n, x.key);
-    let Value::Is(u) = v else {
+    let Some(u) = fetched(pages, n, x.key) else {
         return !x.adds;
     };
     if !x.adds {
@@ -229,14 +219,12 @@ fn newest_agree(pages: &[u8], n: usize, log: &[u8], m: usize, from: u32, count: 
     ensures { AgreeSays (pages_of n pages.now) m log.now from count result }
 {
     let mut at = from;
-    let mut left = count;
-    while left > 0 {
+    for passed in 0..count {
         let x = line_at(log, m, at);
-        if !line_agrees(pages, n, log, m, from, count - left, x) {
+        if !line_agrees(pages, n, log, m, from, passed, x) {
             return false;
         }
         at = x.below;
-        left -= 1;
     }
     true
 }
@@ -261,12 +249,10 @@ pub fn pending_ok(pages: &[u8], n: usize, log: &[u8], m: usize, rows: [Row; 8]) 
     requires { HasAreas n m pages.now log.now }
     ensures { RuleIs (pages_of n pages.now) m log.now rows result }
 {
-    let mut i = 0;
-    while i < 8 {
+    for i in 0..8 {
         if !batch_ok(pages, n, log, m, rows, i) {
             return false;
         }
-        i += 1;
     }
     true
 }

@@ -1,5 +1,5 @@
 -- WHERE A REGISTER STANDS: whether it is sound, and what a call knows of one that is.
-use Rattle.std.specs.Prelude.{None, ℕ, ◌≤◌, ◌≡◌, Bool, true, false, ◌&&◌, List, map, length, take, Option, MatchOption}
+use Rattle.std.specs.Prelude.{ℕ, ◌≤◌, ◌≡◌, Bool, true, false, ◌&&◌, List, map, length, take, Option, None, MatchOption}
 use Rattle.std.proofs.Common.{arith}
 use Rattle.def_layout.specs.declared.Desk.{Desk}
 use Rattle.def_layout.specs.Desks.{eight_rows}

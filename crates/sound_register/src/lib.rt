@@ -37,7 +37,7 @@ fn reserved(wp: &[u8], n: usize, m: usize, d: Desk, marked: [bool; 8]) -> Option
     let free = free_pages(wp, n);
     let batches = used_rows(rows);
     if !reserves_ok(m, free, d.logged as usize, pending as usize, batches) {
-        return None;
+        return None; // too few slots or free pages
     }
     Some(Standing {
         marked,

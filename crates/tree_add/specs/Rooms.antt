@@ -108,6 +108,9 @@ module _ {n m : ℕ} {wp wl : List ℕ} {t : run.Run} {s : Run} (x : program.Pag
 abbrev pub Down : (n m : ℕ) (wp₀ wl₀ wp wl : List ℕ) (t₀ t : run.Run) (k l₀ p₀ l p : ℕ) → Type 0
 Down n m wp₀ wl₀ wp wl t₀ t k l₀ p₀ l p = (s : Run) → Shows n m wp₀ wl₀ t₀ s → (u : Run) × (Shows n m wp wl t u × (descend_add l k p u ≡ descend_add l₀ k p₀ s))
 
+pub down_start : {n m : ℕ} {wp wl : List ℕ} {t : run.Run} (k l₀ p l : ℕ) → l ≡ l₀ → Down n m wp wl wp wl t t k l₀ p l p
+down_start k l₀ p l e s h = (s, (h, ap (λ (i : ℕ). descend_add i k p s) e))
+
 module _ {n m : ℕ} {wp₀ wl₀ wp wl : List ℕ} {t₀ t : run.Run} (k l₀ p₀ p : ℕ) where
   pub down_step : {wp' wl' : List ℕ} (l l' : ℕ) (d : two.Pair) → l ≡ suc l' → Down n m wp₀ wl₀ wp wl t₀ t k l₀ p₀ l p
       → ((s : Run) → Shows n m wp wl t s → ShowsPair n m wp' wl' d (direct k p s)) → Down n m wp₀ wl₀ wp' wl' t₀ d.run k l₀ p₀ l' d.child

@@ -166,16 +166,15 @@ fn descend_add(wp: &mut [u8], wl: &mut [u8], n: usize, m: usize, t: Run, k: u32)
     ensures { DoesAt n m wp wl t result (λ (s : model.Run). model.descend_add (layout.at s.pages 1).level k 1 s) }
 {
     let root = page_at(wp, n, 1);
-    let mut l = root.level;
-    let mut run = t;
-    let mut page = 1;
-    while l > 0 {
-        let d = direct(wp, wl, n, m, run, k, page);
-        run = d.run;
-        page = d.child;
-        l -= 1;
+    let mut at = At { run: t, page: 1 };
+    for _ in 0..root.level {
+        let d = direct(wp, wl, n, m, at.run, k, at.page);
+        at = At {
+            run: d.run,
+            page: d.child,
+        };
     }
-    At { run, page }
+    at
 }
 
 // The leaf to add k to. Step 4: "When adding, a full leaf is split."

@@ -1,13 +1,13 @@
 -- The leaves as the program goes along them: from the first one, by right links.
-use Rattle.std.specs.Prelude.{ℕ, zero, suc, ◌-◌, ◌<◌, ◌≡◌, refl, Bool, true, false, List, [], ◌∷◌, length, eqb}
+use Rattle.std.specs.Prelude.{ℕ, zero, suc, ◌≡◌, refl, true, false, List, [], ◌∷◌, length}
 use Rattle.std.proofs.Common.{sym, ◌∙◌, arith}
 use Rattle.std.proofs.Math.Path.{ap}
-use Rattle.def_base.specs.Tests.{pick, eq_true, neq_false}
+use Rattle.def_base.specs.Tests.{eq_true, neq_false}
 use Rattle.def_layout.specs.declared.Entry.{Entry}
 use Rattle.def_layout.specs.Entries.{entry_at}
 use Rattle.def_layout.specs.Numbers.{tab}
 use Rattle.def_layout.specs.Pages.{Page, at}
-use Rattle.def_model.specs.TreeRules.{Node, node_of, chain, first_child, collect, levels_of, bottom}
+use Rattle.def_model.specs.TreeRules.{node_of, chain, first_child, collect, levels_of, bottom}
 use Rattle.def_model.specs.Links.{left_at, linked, lefts_ok}
 use Rattle.law_bytes.specs.EntryBytes.{used}
 use Rattle.codec_page.specs.declared.Page as program
@@ -22,9 +22,9 @@ down (suc l) pages p = down l pages (first_child (at pages p).entries)
 abbrev pub first_leaf : List Page → ℕ
 first_leaf pages = down (at pages 1).level pages 1
 
-pub down_from : (pages : List Page) (x : program.Page) → typed x ≡ at pages 1 → down x.level pages 1 ≡ first_leaf pages
+pub down_from : (pages : List Page) (x : program.Page) (l : ℕ) → l ≡ x.level → typed x ≡ at pages 1 → down l pages 1 ≡ first_leaf pages
 unfolding typed
-down_from pages x e = ap (λ (y : Page). down y.level pages 1) e
+down_from pages x l h e = ap (λ (k : ℕ). down k pages 1) h ∙ ap (λ (y : Page). down y.level pages 1) e
 
 pub down_end : (l : ℕ) (pages : List Page) (p : ℕ) → l ≡ 0 → down l pages p ≡ first_leaf pages → p ≡ first_leaf pages
 unfolding down

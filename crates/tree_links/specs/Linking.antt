@@ -1,20 +1,18 @@
 -- The leaves linked, one after the other.
-use Rattle.std.specs.Prelude.{ℕ, zero, suc, ◌+◌, ◌-◌, ◌*◌, ◌/◌, ◌%◌, ◌<◌, ◌≤◌, ◌≡◌, refl, Bool, true, false, List, [], ◌∷◌, ◌++◌, map, get_or, drop}
+use Rattle.std.specs.Prelude.{ℕ, suc, ◌*◌, ◌<◌, ◌≤◌, ◌≡◌, refl, true, List, []}
 use Rattle.std.proofs.Math.Path.{sym, ap, subst}
 use Rattle.std.proofs.Common.{ap₂, ◌∙◌, arith}
 use Rattle.std.proofs.Math.ListN.{length, set, length-set}
 use Rattle.def_base.specs.Tests.{clash}
 use Rattle.def_layout.specs.Numbers.{be32, put32}
 use Rattle.def_layout.specs.Pages.{Page, at, leaf}
-use Rattle.def_layout.specs.PageBytes.{page, page_bytes, with_left}
 use Rattle.def_layout.specs.Sizes.{page_size}
 use Rattle.def_model.specs.TreeRules.{Node, node_of, chain, levels_of, bottom, tree_ok}
 use Rattle.def_model.specs.Links.{relink, of_leaves, relinked}
-use Rattle.def_model.specs.OnBytes.{work_bytes}
 use Rattle.law_bytes.specs.Patch.{patch}
 use Rattle.law_bytes.specs.LeftLinks.{leaf?, Links, linked_word}
 use Rattle.law_areas.specs.Pages.{fits_past}
-use Rattle.law_areas.specs.Working.{AllLinks, paired}
+use Rattle.law_areas.specs.Working.{AllLinks}
 use Rattle.law_areas.specs.WorkPages.{work_link_links, work_linked, paired_leaves, work_leaves}
 use Rattle.theory_tree.specs.Shape.Chains.{All}
 use Rattle.theory_tree.specs.Shape.LeftLinks.{of_leaves_length, leaves_are}
@@ -36,16 +34,17 @@ pub record SoFar (n : ℕ) (area : List ℕ) (xs : List Page) (ls : List ℕ) (p
   pub narrow : before < 1024
 
 -- At first.
-pub begun : (n : ℕ) (area : List ℕ) (xs : List Page) (ls : List ℕ) (p : ℕ) → Pages n area xs ls → tree_ok xs ≡ true → n ≤ 896 → p ≡ first_leaf xs → SoFar n area xs ls p 0 n
+pub begun : (n : ℕ) (area : List ℕ) (xs : List Page) (ls : List ℕ) (p left : ℕ) → n ≡ left → Pages n area xs ls → tree_ok xs ≡ true → n ≤ 896 → p ≡ first_leaf xs
+    → SoFar n area xs ls p 0 left
 unfolding relinked
-begun n area xs ls p h t few e =
-    let f : bottom (levels_of xs) ≡ chain n xs p = leaves_from xs ∙ ap₂ (λ k q. chain k xs q) h.size (sym e) in
+begun n area xs ls p left all h t few e =
+    let f : bottom (levels_of xs) ≡ chain left xs p = leaves_from xs ∙ ap₂ (λ k q. chain k xs q) (h.size ∙ all) (sym e) in
     record {
       links = of_leaves xs ls;
       pages = record { bytes = h.bytes ∙ sym (work_leaves xs ls h.links); links = subst AllLinks (sym (paired_leaves xs ls h.links)) h.links; fits = h.fits; size = h.size };
       size = of_leaves_length xs ls;
       rest = ap (λ ns. relink 0 ns (of_leaves xs ls)) (sym f);
-      leaves = subst (λ k. All (λ x. ((at xs x.page).kind ≡ leaf) × (x.page < k)) (chain n xs p)) h.size (subst (λ ns. All (λ x. ((at xs x.page).kind ≡ leaf) × (x.page < length xs)) ns) f (leaves_are xs (test_sound xs t)));
+      leaves = subst (λ k. All (λ x. ((at xs x.page).kind ≡ leaf) × (x.page < k)) (chain left xs p)) h.size (subst (λ ns. All (λ x. ((at xs x.page).kind ≡ leaf) × (x.page < length xs)) ns) f (leaves_are xs (test_sound xs t)));
       narrow = omega arith;
     }
 

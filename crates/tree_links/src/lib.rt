@@ -30,11 +30,9 @@ fn first_leaf(pages: &[u8], n: usize) -> usize
     ensures { result ≡ first_leaf (pages_of n pages.now) }
 {
     let root = nth_page(pages, n, 1);
-    let mut level = root.level;
     let mut p = 1;
-    while level > 0 {
+    for _ in 0..root.level {
         p = first_child(nth_page(pages, n, p)) as usize;
-        level -= 1;
     }
     p
 }
@@ -46,17 +44,15 @@ pub fn lefts_ok(pages: &[u8], n: usize) -> bool
 {
     let mut p = first_leaf(pages, n);
     let mut before = 0;
-    let mut left = n;
-    while p != 0 {
-        if left == 0 {
-            return true;
+    for _ in 0..n {
+        if p == 0 {
+            break;
         }
         if left_of(pages, n, p) as usize != before {
             return false;
         }
         before = p;
         p = right_of(pages, n, p) as usize;
-        left -= 1;
     }
     true
 }
@@ -68,18 +64,13 @@ pub fn relink(pages: &mut [u8], n: usize)
 {
     let mut p = first_leaf(pages, n);
     let mut before: u32 = 0;
-    let mut left = n;
-    while p != 0 {
-        if left == 0 {
-            return;
-        }
-        if p >= n {
-            return;
+    for _ in 0..n {
+        if p == 0 || p >= n {
+            break;
         }
         let next = right_of(pages, n, p);
         set_left(pages, p, before);
         before = p as u32;
         p = next as usize;
-        left -= 1;
     }
 }

@@ -27,31 +27,31 @@ Short x = x.kind < 3 → x.count ≤ room
 
 -- ---- the entry before a place
 
-unfoldable pub before_place : ℕ → List Entry → Option Entry
-before_place zero es = none
-before_place (suc i) es = some (entry_at es i)
+unfoldable pub preceding : ℕ → List Entry → Option Entry
+preceding zero es = none
+preceding (suc i) es = some (entry_at es i)
 
 module _ (i : ℕ) (es : List Entry) where
-  pub before_none : i ≡ 0 → none ≡ before_place i es
-  unfolding before_place
-  before_none e = ap (λ (j : ℕ). before_place j es) (sym e)
+  pub before_none : i ≡ 0 → none ≡ preceding i es
+  unfolding preceding
+  before_none e = ap (λ (j : ℕ). preceding j es) (sym e)
 
-  pub before_at : (i ≡ 0 → ⊥) → some (entry_at es (i - 1)) ≡ before_place i es
-  unfolding before_place
-  before_at nz = let e : i ≡ suc (i - 1) = omega arith in ap (λ (j : ℕ). before_place j es) (sym e)
+  pub before_at : (i ≡ 0 → ⊥) → some (entry_at es (i - 1)) ≡ preceding i es
+  unfolding preceding
+  before_at nz = let e : i ≡ suc (i - 1) = omega arith in ap (λ (j : ℕ). preceding j es) (sym e)
 
-below_place : (k : ℕ) (es : List Entry) → last_below k es ≡ before_place (place k es) es
-unfolding last_below or_this place before_place
+below_place : (k : ℕ) (es : List Entry) → last_below k es ≡ preceding (place k es) es
+unfolding last_below or_this place preceding
 below_place k [] = refl
 below_place k (e ∷ es) = go (case (ltb e.key k)) (place k es) refl (below_place k es)
   where
-    go : Case (ltb e.key k) → (i : ℕ) → place k es ≡ i → last_below k es ≡ before_place (place k es) es → last_below k (e ∷ es) ≡ before_place (place k (e ∷ es)) (e ∷ es)
+    go : Case (ltb e.key k) → (i : ℕ) → place k es ≡ i → last_below k es ≡ preceding (place k es) es → last_below k (e ∷ es) ≡ preceding (place k (e ∷ es)) (e ∷ es)
     go (no! t) i q h = rw t
     go (yes! t) zero q h = rw (t, h, q)
     go (yes! t) (suc i) q h = rw (t, h, q)
 
-entry_place : (es : List Entry) → last_entry es ≡ before_place (length es) es
-unfolding last_entry or_this before_place
+entry_place : (es : List Entry) → last_entry es ≡ preceding (length es) es
+unfolding last_entry or_this preceding
 entry_place [] = refl
 entry_place (e ∷ []) = refl
 entry_place (e ∷ f ∷ es) = ap (λ o. some (or_this o e)) (entry_place (f ∷ es))
@@ -78,18 +78,18 @@ module _ (x : program.Page) (short : Short x) where
     list = entries_searched ∙ ap (λ (m : ℕ). used m x.entries) (sym e)
 
     -- The entry before a place of those searched is the one before it in the page.
-    before_used : (i : ℕ) → i ≤ n → before_place i x.entries ≡ before_place i (used n x.entries)
-    unfolding before_place
+    before_used : (i : ℕ) → i ≤ n → preceding i x.entries ≡ preceding i (used n x.entries)
+    unfolding preceding
     before_used zero h = refl
     before_used (suc i) h = ap some (sym (used_in n i x.entries (omega arith)))
 
-    pub below_is : (k i : ℕ) → i ≡ place k (used n x.entries) → i ≤ n → before_place i x.entries ≡ last_below k (typed x).entries
-    below_is k i p h = before_used i h ∙ ap (λ m. before_place m (used n x.entries)) p ∙ sym (ap (last_below k) list ∙ below_place k (used n x.entries))
+    pub below_is : (k i : ℕ) → i ≡ place k (used n x.entries) → i ≤ n → preceding i x.entries ≡ last_below k (typed x).entries
+    below_is k i p h = before_used i h ∙ ap (λ m. preceding m (used n x.entries)) p ∙ sym (ap (last_below k) list ∙ below_place k (used n x.entries))
 
-    pub last_is : before_place n x.entries ≡ last_entry (typed x).entries
+    pub last_is : preceding n x.entries ≡ last_entry (typed x).entries
     last_is =
         before_used n (omega arith)
-        ∙ sym (ap last_entry list ∙ entry_place (used n x.entries) ∙ ap (λ m. before_place m (used n x.entries)) (tab_length n (entry_at x.entries)))
+        ∙ sym (ap last_entry list ∙ entry_place (used n x.entries) ∙ ap (λ m. preceding m (used n x.entries)) (tab_length n (entry_at x.entries)))
 
 -- ---- previous
 

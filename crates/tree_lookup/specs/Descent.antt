@@ -70,22 +70,22 @@ module _ (k p : ℕ) (pages : List Page) where
       → e.val ≡ (entry_for k (at pages (covering k p pages)).entries).val
   child_is x e h f = ap (λ (d : Entry). d.val) (f ∙ ap (λ (y : Page). entry_for k y.entries) h)
 
-  pub leaf_step : (l q : ℕ) → 0 < l → q ≡ (entry_for k (at pages (covering k p pages)).entries).val → leaf_for l k p pages ≡ leaf_for (l - 1) k q pages
+  pub leaf_step : (l l' q : ℕ) → l ≡ suc l' → q ≡ (entry_for k (at pages (covering k p pages)).entries).val → leaf_for l k p pages ≡ leaf_for l' k q pages
   unfolding leaf_for
-  leaf_step zero q h e = absurd (omega arith)
-  leaf_step (suc l) q h e = rw (sub-one (suc l)) (ap (λ (j : ℕ). leaf_for l k j pages) (sym e))
+  leaf_step l l' q s e = ap (λ (j : ℕ). leaf_for j k p pages) s ∙ ap (λ (j : ℕ). leaf_for l' k j pages) (sym e)
 
-  pub leaf_end : (l : ℕ) (x : Node) → l ≤ 0 → leaf_of k pages ≡ leaf_for l k p pages → shows x (covering k p pages) pages → shows x (leaf_of k pages) pages
+  pub leaf_end : (l : ℕ) (x : Node) → l ≡ 0 → leaf_of k pages ≡ leaf_for l k p pages → shows x (covering k p pages) pages → shows x (leaf_of k pages) pages
   unfolding leaf_for
-  leaf_end zero x h e c = (c.0 ∙ sym e, c.1 ∙ ap (λ (j : ℕ). at pages j) (sym e))
-  leaf_end (suc l) x h e c = absurd (omega arith)
+  leaf_end l x z e c =
+      let there : leaf_of k pages ≡ covering k p pages = e ∙ ap (λ (j : ℕ). leaf_for j k p pages) z in
+      (c.0 ∙ sym there, c.1 ∙ ap (λ (j : ℕ). at pages j) (sym there))
 
 -- ---- the answers
 
 module _ (k : ℕ) (pages : List Page) where
-  pub leaf_from : (x : page.Page) → typed x ≡ at pages 1 → leaf_of k pages ≡ leaf_for x.level k 1 pages
+  pub leaf_from : (x : page.Page) (l : ℕ) → typed x ≡ at pages 1 → l ≡ x.level → leaf_of k pages ≡ leaf_for l k 1 pages
   unfolding typed
-  leaf_from x e = ap (λ (y : Page). leaf_for y.level k 1 pages) (sym e)
+  leaf_from x l e h = ap (λ (y : Page). leaf_for y.level k 1 pages) (sym e) ∙ ap (λ (j : ℕ). leaf_for j k 1 pages) (sym h)
 
   pub fetched_is : (x : page.Page) (o : Option ℕ) → typed x ≡ at pages (leaf_of k pages) → o ≡ look k (typed x).entries → o ≡ fetched k pages
   unfolding fetched

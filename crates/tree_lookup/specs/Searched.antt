@@ -1,5 +1,5 @@
 -- Search in a page whatever its count: the entries past the fourteenth are zero, so that no search stops at them.
-use Rattle.std.specs.Prelude.{◌≡◌, ℕ, zero, suc, ◌<◌, ◌≤◌, length, ltb, leb}
+use Rattle.std.specs.Prelude.{◌≡◌, ℕ, zero, suc, ◌<◌, ◌≤◌, length, ltb, leb, min}
 use Rattle.std.proofs.Math.Path.{ap, sym}
 use Rattle.std.proofs.Common.{◌∙◌, arith}
 use Rattle.std.proofs.Math.Decide.{dec_lt}
@@ -21,19 +21,21 @@ use Rattle.codec_page.specs.Shown.{typed_entries}
 
 -- How many entries the search goes over.
 unfoldable pub searched : program.Page → ℕ
-searched x = pick (leb 3 x.kind) 0 (pick (leb 14 x.count) 14 x.count)
+searched x = pick (leb 3 x.kind) 0 (min x.count 14)
 
 pub searched_map : (x : program.Page) → 3 ≤ x.kind → searched x ≡ 0
 unfolding searched
 searched_map x h = rw (le_true 3 x.kind h)
 
-pub searched_all : (x : program.Page) → x.kind < 3 → 14 ≤ x.count → searched x ≡ 14
+pub searched_node : (x : program.Page) → x.kind < 3 → searched x ≡ min x.count 14
 unfolding searched
-searched_all x h l = rw (le_false 3 x.kind h, le_true 14 x.count l)
+searched_node x h = rw (le_false 3 x.kind h)
+
+pub searched_all : (x : program.Page) → x.kind < 3 → 14 ≤ x.count → searched x ≡ 14
+searched_all x h l = searched_node x h ∙ omega (arith, l)
 
 pub searched_used : (x : program.Page) → x.kind < 3 → x.count < 14 → searched x ≡ x.count
-unfolding searched
-searched_used x h l = rw (le_false 3 x.kind h, le_false 14 x.count l)
+searched_used x h l = searched_node x h ∙ omega (arith, l)
 
 -- ---- zeros at the end
 

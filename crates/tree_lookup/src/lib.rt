@@ -12,7 +12,7 @@ ghost use Rattle.law_bytes.specs.PageAreas.{pages_of, lefts_of};
 ghost use Rattle.law_areas.specs.Pages.{AllPagesFit};
 ghost use Rattle.tree_lookup.specs.Answers.{option_of, shows};
 ghost use Rattle.tree_lookup.specs.Searched.{searched};
-ghost use Rattle.tree_lookup.specs.Backwards.{Short, before_place};
+ghost use Rattle.tree_lookup.specs.Backwards.{Short, preceding};
 
 use codec_entries::find;
 use codec_page::{Page, left_of, nth_page};
@@ -33,10 +33,7 @@ fn searched(x: Page) -> u8
     if x.kind >= 3 {
         return 0;
     }
-    if x.count >= MOST_ENTRIES {
-        return 14;
-    }
-    x.count as u8
+    x.count.min(MOST_ENTRIES) as u8
 }
 
 // The first entry of a page whose key is not below k.
@@ -76,9 +73,9 @@ fn first_of(x: Page) -> Option<Entry>
 }
 
 // The entry before place i.
-fn before(es: [Entry; ROOM], i: u8) -> Option<Entry>
+pub fn before(es: [Entry; ROOM], i: u8) -> Option<Entry>
     requires { i ≤ room }
-    ensures { option_of result ≡ before_place i es }
+    ensures { option_of result ≡ preceding i es }
 {
     if i == 0 {
         return None;
@@ -131,11 +128,9 @@ fn leaf_of(pages: &[u8], n: usize, k: u32) -> Node
     ensures { shows result (leaf_of k (pages_of n pages.now)) (pages_of n pages.now) }
 {
     let root = nth_page(pages, n, 1);
-    let mut l = root.level;
     let mut p = 1;
-    while l > 0 {
+    for _ in 0..root.level {
         p = child_for(pages, n, k, p);
-        l -= 1;
     }
     covering(pages, n, k, p)
 }

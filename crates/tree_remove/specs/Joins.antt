@@ -148,6 +148,9 @@ abbrev pub Down : (n m : ℕ) (wp₀ wl₀ wp wl : List ℕ) (t₀ t : run.Run) 
 Down n m wp₀ wl₀ wp wl t₀ t k l₀ p₀ l p =
     (s : Run) → Shows n m wp₀ wl₀ t₀ s → (u : Run) × (Shows n m wp wl t u × (descend_remove l k p u ≡ descend_remove l₀ k p₀ s))
 
+pub down_start : {n m : ℕ} {wp wl : List ℕ} {t : run.Run} (k l₀ p l : ℕ) → l ≡ l₀ → Down n m wp wl wp wl t t k l₀ p l p
+down_start k l₀ p l e s h = (s, (h, ap (λ (i : ℕ). descend_remove i k p s) e))
+
 module _ {n m : ℕ} {wp₀ wl₀ wp wl : List ℕ} {t₀ t : run.Run} (k l₀ p₀ p : ℕ) where
   pub down_step : {wp' wl' : List ℕ} (l l' : ℕ) (a : here.At) → l ≡ suc l' → Down n m wp₀ wl₀ wp wl t₀ t k l₀ p₀ l p
       → ((s : Run) → Shows n m wp wl t s → ShowsAt n m wp' wl' a (one_down k p s)) → Down n m wp₀ wl₀ wp' wl' t₀ a.run k l₀ p₀ l' a.page

@@ -7,7 +7,7 @@ use Rattle.std.proofs.Math.Dec.{leb}
 use Rattle.def_base.specs.Tests.{le_true, le_false}
 use Rattle.def_layout.specs.declared.Entry.{Entry}
 use Rattle.def_layout.specs.Sizes.{room}
-use Rattle.def_layout.specs.Pages.{Page, at, size}
+use Rattle.def_layout.specs.Pages.{at, size}
 use Rattle.def_layout.specs.Records.{Rec, unlink_row, merge_row, redistribute_row, lower_row}
 use Rattle.def_model.specs.Update.{Run, emit, share, moved_by, link_child, join_by, join, unlink_join, lower_root}
 use Rattle.codec_page.specs.declared.Page as program

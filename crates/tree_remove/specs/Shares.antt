@@ -1,5 +1,7 @@
 -- What neighbours share, and which entries stand beside the one that leads to a key: by places, as the program finds them.
 use Rattle.std.specs.Prelude.{◌≡◌, refl, ℕ, zero, suc, ◌+◌, ◌-◌, ◌/◌, ◌<◌, ◌≤◌, Bool, take}
+use Rattle.std.specs.Prelude as program
+use Rattle.std.specs.Option.{UnwrapsOrElse}
 use Rattle.std.proofs.Math.Path.{ap, sym}
 use Rattle.std.proofs.Common.{ap₂, ◌∙◌, add-one, arith}
 use Rattle.std.proofs.Math.Bool.{true, false}
@@ -16,6 +18,8 @@ use Rattle.def_model.specs.Update.{share, moved_by, next_entry, entry_before}
 use Rattle.law_bytes.specs.Tables.{tab_length}
 use Rattle.law_bytes.specs.EntryBytes.{used, used_in}
 use Rattle.codec_entries.specs.Arrays.{used_take, getD_joined}
+use Rattle.tree_lookup.specs.Answers.{option_of}
+use Rattle.tree_lookup.specs.Backwards.{preceding}
 
 -- The entries that a redistribution moves, and the left page's last key after it.
 abbrev pub moved_of : List Entry → List Entry → List Entry
@@ -107,11 +111,11 @@ before_place k d (e ∷ es) = go (case (ltb e.key k)) (before_place k e es)
     go (yes! t) again = rw t again
     go (no! t) again = rw t
 
--- The entry before the i-th, of an array's first n.
-pub before_first : (n i : ℕ) (es : List Entry) → i ≡ 0 → no_entry ≡ entry_at (no_entry ∷ used n es) i
-before_first n i es z = sym (ap (λ (j : ℕ). entry_at (no_entry ∷ used n es) j) z)
-
-pub before_later : (n i : ℕ) (es : List Entry) → (i ≡ 0 → ⊥) → i ≤ n → entry_at es (i - 1) ≡ entry_at (no_entry ∷ used n es) i
-before_later n zero es z l = absurd (z refl)
-before_later n (suc j) es z l =
-    let e : suc j - 1 ≡ j = omega arith in ap (λ (i : ℕ). entry_at es i) e ∙ sym (used_in n j es (omega arith))
+-- The entry before the i-th, of an array's first n, as an option or as the default entry.
+pub before_is : (n i : ℕ) (es : List Entry) (o : program.Option Entry) (d : Entry) (P : Entry → Type 0) → ((x : Entry) → P x → x ≡ no_entry) → option_of o ≡ preceding i es
+    → UnwrapsOrElse o P d → i ≤ n → d ≡ entry_at (no_entry ∷ used n es) i
+unfolding preceding
+before_is n zero es program.None d P is e u l = is d u
+before_is n zero es (program.Some x) d P is e u l = cc
+before_is n (suc j) es program.None d P is e u l = cc
+before_is n (suc j) es (program.Some x) d P is e u l = let same : x ≡ entry_at es j = cc in u ∙ same ∙ sym (used_in n j es (omega arith))

@@ -3,7 +3,6 @@
 
 ghost use Rattle.std.specs.Prelude.{◌≡◌, ◌∷◌, ◌+◌, ◌/◌, ◌≤◌, ◌<◌};
 ghost use Rattle.def_layout.specs.Sizes.{room};
-ghost use Rattle.def_layout.specs.Entries.{no_entry, entry_at};
 ghost use Rattle.def_layout.specs.Pages as layout;
 ghost use Rattle.def_layout.specs.Records.{kind_of};
 ghost use Rattle.def_model.specs.Update as model;
@@ -17,12 +16,12 @@ ghost use Rattle.tree_remove.specs.Shares.{moved_of, shared_key};
 
 use codec_entries::{entry_in, find};
 use codec_page::Page;
-use def_layout::{Entry, MOST_ENTRIES, ROOM};
+use def_layout::MOST_ENTRIES;
 use record_apply::lists::{EntryList, without_first};
 use record_make::{data_row, lower_row, merge_row, redistribute_row, unlink_row};
 use record_pages::page_at;
 use tree_add::{At, Pair, direct, half, link_child, list_of, make_room, raise_root};
-use tree_lookup::entry_for;
+use tree_lookup::{before, entry_for};
 use tree_write::{Run, emit};
 
 // 01: "Redistribution gives the left page the larger half": how many of a and b entries it gets.
@@ -47,8 +46,7 @@ fn moved(x: Page, y: Page) -> EntryList
             entries,
         };
     }
-    let es = x.entries;
-    without_first(es, a, c)
+    without_first(x.entries, a, c)
 }
 
 // The left page's last key after it.
@@ -60,22 +58,9 @@ fn shared_key(x: Page, y: Page) -> u32
     let b = y.count as usize;
     let i = share(a, b) - 1;
     if i < a {
-        let es = x.entries;
-        return entry_in(es, a, i).key;
+        return entry_in(x.entries, a, i).key;
     }
-    let fs = y.entries;
-    entry_in(fs, b, i - a).key
-}
-
-// The entry before the i-th of n; of the first it is none.
-fn before(es: [Entry; ROOM], n: u8, i: u8) -> Entry
-    requires { (n ≤ room) × (i ≤ n) }
-    ensures { result ≡ entry_at (no_entry ∷ used n es) i }
-{
-    if i == 0 {
-        return Entry { key: 0, val: 0 };
-    }
-    es[i as usize - 1]
+    entry_in(y.entries, b, i - a).key
 }
 
 // 01: "Join means merge if together they hold at most 14; otherwise redistribute, then link again."
@@ -180,7 +165,7 @@ fn restock(wp: &mut [u8], wl: &mut [u8], n: usize, m: usize, t: Run, k: u32, q: 
         let u = link_after(wp, wl, n, m, t, p, f.val, f.key);
         return unlink_join(wp, wl, n, m, u, p, q, f.val);
     }
-    let d = before(es, count, i);
+    let d = before(es, i).unwrap_or_default();
     let u = link_after(wp, wl, n, m, t, p, d.val, d.key);
     join_left(wp, wl, n, m, u, p, d.val, q)
 }
@@ -202,8 +187,10 @@ fn stocked(wp: &mut [u8], wl: &mut [u8], n: usize, m: usize, d: Pair, k: u32) ->
 {
     let x = page_at(wp, n, d.child);
     if x.count != 4 {
-        let run = d.run;
-        return At { run, page: d.child };
+        return At {
+            run: d.run,
+            page: d.child,
+        };
     }
     let a = make_room(wp, wl, n, m, d.run, k, d.parent);
     let u = restock(wp, wl, n, m, a.run, k, d.child, a.page);
@@ -228,11 +215,7 @@ fn step(wp: &mut [u8], wl: &mut [u8], n: usize, m: usize, d: Pair, k: u32) -> At
     ensures { (e : model.Pair) → ShowsPair n m wp.old wl.old d e
         → ShowsAt n m wp.new wl.new result (model.step_by (model.lone e) k e) }
 {
-    if d.parent != 1 {
-        return stocked(wp, wl, n, m, d, k);
-    }
-    let x = page_at(wp, n, 1);
-    if x.count != 1 {
+    if d.parent != 1 || page_at(wp, n, 1).count != 1 {
         return stocked(wp, wl, n, m, d, k);
     }
     let u = lower_root(wp, wl, n, m, d.run, d.child);
@@ -245,17 +228,12 @@ fn descend_remove(wp: &mut [u8], wl: &mut [u8], n: usize, m: usize, t: Run, k: u
     ensures { DoesAt n m wp wl t result (λ (s : model.Run). model.descend_remove (layout.at s.pages 1).level k 1 s) }
 {
     let root = page_at(wp, n, 1);
-    let mut l = root.level;
-    let mut run = t;
-    let mut page = 1;
-    while l > 0 {
-        let d = direct(wp, wl, n, m, run, k, page);
-        let a = step(wp, wl, n, m, d, k);
-        run = a.run;
-        page = a.page;
-        l -= 1;
+    let mut at = At { run: t, page: 1 };
+    for _ in 0..root.level {
+        let d = direct(wp, wl, n, m, at.run, k, at.page);
+        at = step(wp, wl, n, m, d, k);
     }
-    At { run, page }
+    at
 }
 
 // A REMOVAL: a delete or an undo-insert.

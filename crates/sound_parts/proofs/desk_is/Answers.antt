@@ -1,15 +1,7 @@
--- `desk_is`: other rows, or else the count decides.
-use borrow.Author.Tests.{not-true, not-false}
-use mathlib.Core.Path.{sym, ◌∙◌}
-use Rattle.sound_parts.specs.Desks.{other_rows, count_decides}
+-- `desk_is`: the derived comparison of the desk.
+use mathlib.Core.Path.{◌∙◌}
+use Rattle.sound_parts.specs.Desks.{desk_alike, desk_with}
 use Rattle.sound_parts.proofs.desk_is.Goals as goal
 
-pub returns-then-not-same_rows : goal.returns-then-not-same_rows
-returns-then-not-same_rows c =
-    let a = c.args in
-    sym (other_rows a.d a.rows a.logged (sym c.same_rows.ensures ∙ not-true _ c.if-not-same_rows.true-raw))
-
 pub returns : goal.returns
-returns c =
-    let a = c.args in
-    sym (count_decides a.d a.rows a.logged (sym c.same_rows.ensures ∙ not-false _ c.if-not-same_rows.false-raw))
+returns c = let a = c.args in c.eq.ensures ∙ desk_alike a.d (desk_with a.rows a.logged a.d.stored)

@@ -2,25 +2,20 @@
 use mathlib.Core.Path.{sym, ◌∙◌, ap}
 use borrow.Author.Tests.{not-true, not-false}
 use Rattle.law_bytes.specs.PageAreas.{pages_of}
-use Rattle.tree_lookup.specs.Answers.{value_of}
 use Rattle.sound_pending.specs.Agreeing.{agrees_with, agrees_is, absent_agrees, there_not, there_agrees}
-use Rattle.tree_lookup.proofs.Absent.{no_value}
 use Rattle.sound_pending.proofs.agrees.Goals as goal
 
 pub returns-in_default : goal.returns-in_default
 returns-in_default c =
     let a = c.args in
-    let f = c.fetched-v in
-    agrees_is (pages_of a.n a.pages.now) a.x _ (absent_agrees a.x ∙ ap (agrees_with a.x) (sym (no_value f.result c.in_default.in_default-own.keys2) ∙ f.ensures))
+    agrees_is (pages_of a.n a.pages.now) a.x _ (absent_agrees a.x ∙ ap (agrees_with a.x) c.in_default.ensures)
 
 pub returns-then-not-x : goal.returns-then-not-x
 returns-then-not-x c =
     let a = c.args in
-    let f = c.fetched-v in
-    agrees_is (pages_of a.n a.pages.now) a.x _ (sym (there_not a.x _ (not-true _ c.if-not-x.true)) ∙ ap (agrees_with a.x) (sym (ap value_of c.in-Is.is) ∙ f.ensures))
+    agrees_is (pages_of a.n a.pages.now) a.x _ (sym (there_not a.x _ (not-true _ c.if-not-x.true)) ∙ ap (agrees_with a.x) c.in-Some.ensures)
 
 pub returns : goal.returns
 returns c =
     let a = c.args in
-    let f = c.fetched-v in
-    agrees_is (pages_of a.n a.pages.now) a.x _ (sym (there_agrees a.x _ (not-false _ c.if-not-x.false)) ∙ ap (agrees_with a.x) (sym (ap value_of c.in-Is.is) ∙ f.ensures))
+    agrees_is (pages_of a.n a.pages.now) a.x _ (sym (there_agrees a.x _ (not-false _ c.if-not-x.false)) ∙ ap (agrees_with a.x) c.in-Some.ensures)

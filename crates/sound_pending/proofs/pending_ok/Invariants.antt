@@ -1,11 +1,7 @@
 -- `pending_ok`: so far every batch is in order.
-use Prim.Native.Nat.{◌≤◌, ◌-◌}
 use Rattle.law_bytes.specs.PageAreas.{pages_of}
 use Rattle.sound_pending.specs.Rule.{RuleLeft}
 use Rattle.sound_pending.proofs.pending_ok.Given as goal
 
 abbrev pub invariant-loop-i : goal.invariant-loop-i
-invariant-loop-i l = (l.i ≤ 8) × RuleLeft (pages_of l.n l.pages) l.m l.log l.rows l.i
-
-abbrev pub decreases-loop-i : goal.decreases-loop-i
-decreases-loop-i l = 8 - l.i
+invariant-loop-i l = RuleLeft (pages_of l.n l.pages) l.m l.log l.rows l.i

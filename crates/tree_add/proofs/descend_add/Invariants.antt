@@ -1,11 +1,10 @@
 -- `descend_add`: level by level.
 use mathlib.Core.Path.{◌≡◌}
 use lib.ListN.{length}
+use Prim.Native.Nat.{◌-◌}
 use Rattle.tree_add.specs.Rooms.{Down}
 use Rattle.tree_add.proofs.descend_add.Given as goal
 
-abbrev pub invariant-loop-l : goal.invariant-loop-l
-invariant-loop-l l = (length l.wp ≡ length l.initial.wp) × (length l.wl ≡ length l.initial.wl) × Down l.n l.m l.initial.wp l.initial.wl l.wp l.wl l.initial.run l.run l.k l.initial.l l.initial.page l.l l.page
-
-abbrev pub decreases-loop-l : goal.decreases-loop-l
-decreases-loop-l l = l.l
+abbrev pub invariant-loop : goal.invariant-loop
+invariant-loop l = (length l.wp ≡ length l.initial.wp) × (length l.wl ≡ length l.initial.wl)
+    × Down l.n l.m l.initial.wp l.initial.wl l.wp l.wl l.initial.at.run l.at.run l.k l.end l.initial.at.page (l.end - l.counter) l.at.page

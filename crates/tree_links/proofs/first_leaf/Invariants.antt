@@ -5,8 +5,5 @@ use Rattle.law_bytes.specs.PageAreas.{pages_of}
 use Rattle.tree_links.specs.Leaves.{down, first_leaf}
 use Rattle.tree_links.proofs.first_leaf.Given as goal
 
-abbrev pub invariant-loop-level : goal.invariant-loop-level
-invariant-loop-level l = down l.level (pages_of l.n l.pages) l.p ≡ first_leaf (pages_of l.n l.pages)
-
-abbrev pub decreases-loop-level : goal.decreases-loop-level
-decreases-loop-level l = l.level
+abbrev pub invariant-loop : goal.invariant-loop
+invariant-loop l = down (l.end - l.counter) (pages_of l.n l.pages) l.p ≡ first_leaf (pages_of l.n l.pages)

@@ -1,7 +1,7 @@
 -- `lefts_ok`: the answer for all leaves is the answer for those from the page at hand on.
 use native.Mathlib.Omega.{arith}
 use mathlib.Core.Path.{◌≡◌, refl, sym, ap, ◌∙◌}
-use Prim.Native.Nat.{ℕ, suc, ◌-◌}
+use Prim.Native.Nat.{ℕ, suc, ◌-◌, ◌+◌}
 use Rattle.def_model.specs.TreeRules.{chain}
 use Rattle.def_model.specs.Links.{linked}
 use Rattle.law_bytes.specs.Pieces.{read_all_length}
@@ -10,30 +10,30 @@ use Rattle.law_bytes.specs.PageAreas.{pages_of, lefts_of}
 use Rattle.tree_links.specs.Leaves.{first_leaf, linked_from, linked_end, linked_out, linked_on, linked_off}
 use Rattle.tree_links.proofs.lefts_ok.Goals as goal
 
-pub loop-p-init : goal.loop-p-init
-loop-p-init c =
+pub loop-init : goal.loop-init
+loop-init c =
     let a = c.args in
     let xs = pages_of a.n a.pages.now in
     linked_from xs (lefts_of a.n a.pages.now)
-    ∙ ap (λ (k : ℕ). linked 0 (chain k xs (first_leaf xs)) (lefts_of a.n a.pages.now)) (read_all_length 128 page_fields a.n a.pages.now)
-    ∙ ap (λ (p : ℕ). linked 0 (chain a.n xs p) (lefts_of a.n a.pages.now)) (sym c.first_leaf-p.ensures)
-
-pub returns-then-left-eq0 : goal.returns-then-left-eq0
-returns-then-left-eq0 c = let a = c.args in let l = c.loop-p in sym (l.invariant ∙ linked_out (pages_of a.n a.pages.now) (lefts_of a.n a.pages.now) l.before l.left l.p c.if-left-eq0.true)
+    ∙ ap (λ (k : ℕ). linked 0 (chain k xs (first_leaf xs)) (lefts_of a.n a.pages.now)) (read_all_length 128 page_fields a.n a.pages.now ∙ omega arith)
+    ∙ ap (λ (p : ℕ). linked 0 (chain (a.n - 0) xs p) (lefts_of a.n a.pages.now)) (sym c.first_leaf-p.ensures)
 
 pub returns-then-left_of-before : goal.returns-then-left_of-before
 returns-then-left_of-before c =
     let a = c.args in
-    let l = c.loop-p in
-    let e : l.left ≡ suc (l.left - 1) = omega (arith, c.if-left-eq0.false) in
-    sym (l.invariant ∙ linked_off (pages_of a.n a.pages.now) (lefts_of a.n a.pages.now) l.before l.left (l.left - 1) l.p _ e c.loop-p-test.true refl (λ q. c.if-left_of-before.true (c.left_of.ensures ∙ q)))
+    let l = c.loop in
+    let e : a.n - l.counter ≡ suc (a.n - (l.counter + 1)) = omega arith in
+    sym (l.invariant ∙ linked_off (pages_of a.n a.pages.now) (lefts_of a.n a.pages.now) l.before _ _ l.p _ e c.if-p-eq0.false refl (λ q. c.if-left_of-before.true (c.left_of.ensures ∙ q)))
 
-pub loop-p-preserved : goal.loop-p-preserved
-loop-p-preserved c =
+pub loop-preserved : goal.loop-preserved
+loop-preserved c =
     let a = c.args in
-    let l = c.loop-p in
-    let e : l.left ≡ suc (l.left - 1) = omega (arith, c.if-left-eq0.false) in
-    l.invariant ∙ linked_on (pages_of a.n a.pages.now) (lefts_of a.n a.pages.now) l.before l.left (l.left - 1) l.p _ e c.loop-p-test.true c.right_of-p.ensures (sym c.left_of.ensures ∙ c.if-left_of-before.false)
+    let l = c.loop in
+    let e : a.n - l.counter ≡ suc (a.n - (l.counter + 1)) = omega arith in
+    l.invariant ∙ linked_on (pages_of a.n a.pages.now) (lefts_of a.n a.pages.now) l.before _ _ l.p _ e c.if-p-eq0.false c.right_of-p.ensures (sym c.left_of.ensures ∙ c.if-left_of-before.false)
 
-pub returns : goal.returns
-returns c = let a = c.args in let l = c.loop-p in sym (l.invariant ∙ linked_end (pages_of a.n a.pages.now) (lefts_of a.n a.pages.now) l.before l.left l.p c.loop-p-test.false)
+pub returns-then-p-eq0 : goal.returns-then-p-eq0
+returns-then-p-eq0 c = let a = c.args in let l = c.loop in sym (l.invariant ∙ linked_end (pages_of a.n a.pages.now) (lefts_of a.n a.pages.now) l.before _ l.p c.if-p-eq0.true)
+
+pub returns-after-loop : goal.returns-after-loop
+returns-after-loop c = let a = c.args in let l = c.loop in sym (l.invariant ∙ linked_out (pages_of a.n a.pages.now) (lefts_of a.n a.pages.now) l.before (a.n - l.counter) l.p (omega arith))

@@ -6,8 +6,5 @@ use Rattle.def_model.specs.Links.{linked, lefts_ok}
 use Rattle.law_bytes.specs.PageAreas.{pages_of, lefts_of}
 use Rattle.tree_links.proofs.lefts_ok.Given as goal
 
-abbrev pub invariant-loop-p : goal.invariant-loop-p
-invariant-loop-p l = lefts_ok (pages_of l.n l.pages) (lefts_of l.n l.pages) ≡ linked l.before (chain l.left (pages_of l.n l.pages) l.p) (lefts_of l.n l.pages)
-
-abbrev pub decreases-loop-p : goal.decreases-loop-p
-decreases-loop-p l = l.left
+abbrev pub invariant-loop : goal.invariant-loop
+invariant-loop l = lefts_ok (pages_of l.n l.pages) (lefts_of l.n l.pages) ≡ linked l.before (chain (l.n - l.counter) (pages_of l.n l.pages) l.p) (lefts_of l.n l.pages)

@@ -10,8 +10,5 @@ use Rattle.record_pages.specs.Pages.{Pages}
 use Rattle.tree_links.specs.Linking.{SoFar}
 use Rattle.tree_links.proofs.relink.Given as goal
 
-abbrev pub invariant-loop-p : goal.invariant-loop-p
-invariant-loop-p l = (length l.pages ≡ length l.initial.pages) × (l.before < 1024) × ((xs : List Page) (ls : List ℕ) → Pages l.n l.initial.pages xs ls → tree_ok xs ≡ true → SoFar l.n l.pages xs ls l.p l.before l.left)
-
-abbrev pub decreases-loop-p : goal.decreases-loop-p
-decreases-loop-p l = l.left
+abbrev pub invariant-loop : goal.invariant-loop
+invariant-loop l = (length l.pages ≡ length l.initial.pages) × (l.before < 1024) × ((xs : List Page) (ls : List ℕ) → Pages l.n l.initial.pages xs ls → tree_ok xs ≡ true → SoFar l.n l.pages xs ls l.p l.before (l.n - l.counter))

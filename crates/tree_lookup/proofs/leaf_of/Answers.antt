@@ -5,19 +5,19 @@ use Rattle.law_bytes.specs.PageAreas.{pages_of}
 use Rattle.tree_lookup.specs.Descent.{leaf_from, leaf_step, leaf_end}
 use Rattle.tree_lookup.proofs.leaf_of.Goals as goal
 
-pub loop-l-init : goal.loop-l-init
-loop-l-init c =
+pub loop-init : goal.loop-init
+loop-init c =
     let a = c.args in
-    leaf_from a.k (pages_of a.n a.pages.now) _ c.nth_page-root.ensures
+    leaf_from a.k (pages_of a.n a.pages.now) _ _ c.nth_page-root.ensures (omega arith)
 
-pub loop-l-preserved : goal.loop-l-preserved
-loop-l-preserved c =
+pub loop-preserved : goal.loop-preserved
+loop-preserved c =
     let a = c.args in
-    let l = c.loop-l in
-    l.invariant ∙ leaf_step a.k l.p (pages_of a.n a.pages.now) l.l _ (omega arith) c.child_for-p.ensures
+    let l = c.loop in
+    l.invariant ∙ leaf_step a.k l.p (pages_of a.n a.pages.now) _ _ _ (omega arith) c.child_for-p.ensures
 
 pub returns : goal.returns
 returns c =
     let a = c.args in
-    let l = c.loop-l in
-    leaf_end a.k l.p (pages_of a.n a.pages.now) l.l _ (omega arith) l.invariant c.covering.ensures
+    let l = c.loop in
+    leaf_end a.k l.p (pages_of a.n a.pages.now) _ _ (omega arith) l.invariant c.covering.ensures

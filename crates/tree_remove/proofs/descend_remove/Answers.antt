@@ -3,41 +3,41 @@ use mathlib.Core.Path.{refl, ◌∙◌}
 use native.Mathlib.Omega.{arith}
 use Rattle.def_model.specs.Update.{direct}
 use Rattle.tree_add.specs.Rooms.{level_is}
-use Rattle.tree_remove.specs.Joins.{down_step, down_end}
+use Rattle.tree_remove.specs.Joins.{down_start, down_step, down_end}
 use Rattle.tree_remove.proofs.descend_remove.Goals as goal
 
-pub loop-l-init : goal.loop-l-init
-loop-l-init c = (refl, refl, λ s h. (s, (h, refl)))
+pub loop-init : goal.loop-init
+loop-init c = (refl, refl, down_start c.args.k _ _ _ (omega arith))
 
 pub direct-d-requires : goal.direct-d-requires
 direct-d-requires c =
     let p = c.requires in
-    let i = c.loop-l.invariant in
+    let i = c.loop.invariant in
     (omega (arith, p, i.0), p.1, omega (arith, p, i.1), p.3)
 
-pub step-a-requires : goal.step-a-requires
-step-a-requires c =
+pub step-at-requires : goal.step-at-requires
+step-at-requires c =
     let p = c.requires in
-    let i = c.loop-l.invariant in
+    let i = c.loop.invariant in
     let d = c.direct-d.auto in
     (omega (arith, p, i.0, d.wp), p.1, omega (arith, p, i.1, d.wl), p.3)
 
-pub loop-l-preserved : goal.loop-l-preserved
-loop-l-preserved c =
+pub loop-preserved : goal.loop-preserved
+loop-preserved c =
     let a = c.args in
-    let l = c.loop-l in
+    let l = c.loop in
     let d = c.direct-d in
-    let e = c.step-a in
-    (e.auto.wp ∙ d.auto.wp ∙ l.invariant.0, e.auto.wl ∙ d.auto.wl ∙ l.invariant.1, down_step a.k _ _ l.page l.l _ e.result (omega (arith, c.loop-l-test.true)) l.invariant.2 (λ s h. e.ensures (direct a.k l.page s) (d.ensures s h)))
+    let e = c.step-at in
+    (e.auto.wp ∙ d.auto.wp ∙ l.invariant.0, e.auto.wl ∙ d.auto.wl ∙ l.invariant.1, down_step a.k _ _ l.at.page _ _ e.result (omega arith) l.invariant.2 (λ s h. e.ensures (direct a.k l.at.page s) (d.ensures s h)))
 
 pub shape_of-wp : goal.shape_of-wp
-shape_of-wp c = c.loop-l.invariant.0
+shape_of-wp c = c.loop.invariant.0
 
 pub shape_of-wl : goal.shape_of-wl
-shape_of-wl c = c.loop-l.invariant.1
+shape_of-wl c = c.loop.invariant.1
 
 pub returns : goal.returns
 returns c s h =
     let a = c.args in
-    let l = c.loop-l in
-    down_end a.k _ _ l.page l.l s (omega (arith, c.loop-l-test.false)) (level_is (c.page_at-root.ensures.1 s.pages s.lefts h.pages)) refl l.invariant.2 h
+    let l = c.loop in
+    down_end a.k _ _ l.at.page _ s (omega arith) (level_is (c.page_at-root.ensures.1 s.pages s.lefts h.pages)) refl l.invariant.2 h

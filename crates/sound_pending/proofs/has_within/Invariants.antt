@@ -1,9 +1,0 @@
--- `has_within`: no line so far has such a key, so what is left is asked of the rest.
-use Rattle.sound_pending.specs.Keys.{from_to, KeysLeft}
-use Rattle.sound_pending.proofs.has_within.Given as goal
-
-abbrev pub invariant-loop-left : goal.invariant-loop-left
-invariant-loop-left l = KeysLeft (from_to l.first l.last) l.m l.log l.from l.count l.at l.left
-
-abbrev pub decreases-loop-left : goal.decreases-loop-left
-decreases-loop-left l = l.left
