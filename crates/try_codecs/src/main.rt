@@ -6,6 +6,7 @@ ghost use Rattle.std.specs.Prelude.{◌≡◌, set};
 
 use codec_page::Page;
 use codec_slot::{Header, Slot};
+use def_layout::page::PageKind;
 use def_layout::{Entry, PAGE_SIZE, ROOM, SLOT_SIZE};
 use std::io;
 
@@ -31,7 +32,7 @@ fn entries(key: u32, val: u32) -> [Entry; ROOM] {
     es
 }
 
-fn node(kind: u32, level: u32, count: u32, lsn: u32, own: u32, es: [Entry; ROOM]) -> Page {
+fn node(kind: PageKind, level: u32, count: u32, lsn: u32, own: u32, es: [Entry; ROOM]) -> Page {
     Page {
         kind,
         level,
@@ -64,7 +65,7 @@ fn read_back(x: Page) -> bool {
 }
 
 fn leaves(rt: &impl Print) -> io::Result<()> {
-    let leaf = node(1, 0, 1, 33, 5, entries(10, 4294967295));
+    let leaf = node(PageKind::Leaf, 0, 1, 33, 5, entries(10, 4294967295));
     say_layout(rt, "a leaf", as_written(leaf, 16, 5))?;
     say_layout(rt, "read back", read_back(leaf))?;
     say_layout(rt, "at another place", as_written(leaf, 16, 6))?;
@@ -73,12 +74,12 @@ fn leaves(rt: &impl Print) -> io::Result<()> {
     say_layout(
         rt,
         "fifteen entries",
-        as_written(node(1, 0, 15, 33, 5, entries(10, 1)), 16, 5),
+        as_written(node(PageKind::Leaf, 0, 15, 33, 5, entries(10, 1)), 16, 5),
     )?;
     say_layout(
         rt,
         "a leaf above level 0",
-        as_written(node(1, 1, 1, 33, 5, entries(10, 1)), 16, 5),
+        as_written(node(PageKind::Leaf, 1, 1, 33, 5, entries(10, 1)), 16, 5),
     )
 }
 
@@ -86,38 +87,38 @@ fn others(rt: &impl Print) -> io::Result<()> {
     say_layout(
         rt,
         "an index",
-        as_written(node(2, 1, 1, 33, 5, entries(10, 1023)), 16, 5),
+        as_written(node(PageKind::Index, 1, 1, 33, 5, entries(10, 1023)), 16, 5),
     )?;
     say_layout(
         rt,
         "a child of eleven bits",
-        as_written(node(2, 1, 1, 33, 5, entries(10, 1024)), 16, 5),
+        as_written(node(PageKind::Index, 1, 1, 33, 5, entries(10, 1024)), 16, 5),
     )?;
     say_layout(
         rt,
         "an index of level 0",
-        as_written(node(2, 0, 1, 33, 5, entries(10, 1)), 16, 5),
+        as_written(node(PageKind::Index, 0, 1, 33, 5, entries(10, 1)), 16, 5),
     )?;
     say_layout(
         rt,
         "never used",
-        as_written(node(0, 0, 0, 0, 0, entries(0, 0)), 16, 5),
+        as_written(node(PageKind::Free, 0, 0, 0, 0, entries(0, 0)), 16, 5),
     )?;
     say_layout(
         rt,
         "free again",
-        as_written(node(0, 0, 0, 9, 5, entries(0, 0)), 16, 5),
+        as_written(node(PageKind::Free, 0, 0, 9, 5, entries(0, 0)), 16, 5),
     )?;
     say_layout(
         rt,
         "free with a number and no place",
-        as_written(node(0, 0, 0, 9, 0, entries(0, 0)), 16, 5),
+        as_written(node(PageKind::Free, 0, 0, 9, 0, entries(0, 0)), 16, 5),
     )
 }
 
 fn maps(rt: &impl Print) -> io::Result<()> {
     let es = entries(3221291008, 0);
-    let first = node(3, 0, 0, 0, 0, es);
+    let first = node(PageKind::Map, 0, 0, 0, 0, es);
     say_layout(rt, "the map", as_written(first, 16, 0))?;
     say_layout(rt, "the map at another place", as_written(first, 16, 5))?;
     say_layout(rt, "a mark past the last page", as_written(first, 15, 0))?;
