@@ -17,6 +17,19 @@ use Rattle.log_chain.specs.Ends.{commits}
 use Rattle.log_judge.specs.Updates.{TellsUpdate, TellsBatch}
 use Rattle.log_judge.specs.Turns.{Turns, by_step, update_goes, first_place, first_goes}
 
+-- Batches p and o are alike in the first row and its mark. The other rows and marks may differ, and there may be any number of them.
+pub record SameFirst (p o : Batches) : Type 0 where
+  pub row : row_at p.rows 0 ≡ row_at o.rows 0
+  pub mark : get_or p.marked 0 false ≡ get_or o.marked 0 false
+
+-- They are alike in the second row's batch too, which tells whether the first batch is the only one.
+pub record SameFront (p o : Batches) : Type 0 where
+  pub first : SameFirst p o
+  pub next : (row_at p.rows 1).batch ≡ (row_at o.rows 1).batch
+
+pub same_front : (o : Batches) → SameFront o o
+same_front o = record { first = record { row = refl; mark = refl }; next = refl }
+
 -- Slot i as a matter of the first row: what is done is done to that row.
 abbrev pub Alone : ℕ → ℕ → List ℕ → ℕ → Batches → Option Row → Type 0
 Alone n m b i o r = IfSome r (λ y. Turns n m b i o (right_with (set o.rows 0 y) o.marked))
@@ -28,12 +41,13 @@ pub record GoesOnFirst (o : Batches) (t : Told) : Type 0 where
   pub unmarked : get_or o.marked 0 false ≡ false
   pub last : (row_at o.rows 0).last ≡ t.previous
 
-goes_first : (o : Batches) (t : Told) → GoesOnFirst o t → GoesOn o t (Some 0)
-goes_first o t g = first_goes o t g.named g.batch g.unmarked g.last
+goes_first : (p o : Batches) (t : Told) → SameFirst p o → GoesOnFirst p t → GoesOn o t (Some 0)
+goes_first p o t s g =
+    first_goes o t g.named (ap (λ (r : Row). r.batch) (sym s.row) ∙ g.batch) (sym s.mark ∙ g.unmarked) (ap (λ (r : Row). r.last) (sym s.row) ∙ g.last)
 
-same_first : (rs : List Row) → set rs 0 (row_at rs 0) ≡ rs
-same_first [] = refl
-same_first (r ∷ rs) = refl
+set_first : (rs : List Row) (y : Row) → y ≡ row_at rs 0 → set rs 0 y ≡ rs
+set_first [] y e = refl
+set_first (r ∷ rs) y e = ap (λ (c : Row). c ∷ rs) e
 
 -- ---- the only open batch commits
 
@@ -62,23 +76,27 @@ lone_commits o t g k off v log bs x h s w n =
 
 -- ---- the slot
 
-module _ (n m : ℕ) (b : List ℕ) (i : ℕ) (t : Told) (o : Batches) (y : Row) where
+-- The program reads p, and o is alike.
+module _ (n m : ℕ) (b : List ℕ) (i : ℕ) (t : Told) (p o : Batches) (y : Row) where
   -- An update of the first row's batch.
-  pub alone_update : GoesOnFirst o t → TellsUpdate n m b i t → y ≡ longer_row (row_at o.rows 0) t.own → Turns n m b i o (right_with (set o.rows 0 y) o.marked)
-  alone_update g u v = update_goes n m b i o t u 0 (goes_first o t g) y v
+  pub alone_update : SameFirst p o → GoesOnFirst p t → TellsUpdate n m b i t → y ≡ longer_row (row_at p.rows 0) t.own
+      → Turns n m b i o (right_with (set o.rows 0 y) o.marked)
+  alone_update s g u v = update_goes n m b i o t u 0 (goes_first p o t s g) y (v ∙ ap (λ (r : Row). longer_row r t.own) s.row)
 
   -- The commit of the only batch.
-  pub alone_commit : GoesOnFirst o t → TellsBatch n m b i t → t.kind ≡ 6 → (row_at o.rows 1).batch ≡ 0 → y ≡ no_row
+  pub alone_commit : SameFront p o → GoesOnFirst p t → TellsBatch n m b i t → t.kind ≡ 6 → (row_at p.rows 1).batch ≡ 0 → y ≡ no_row
       → Turns n m b i o (right_with (set o.rows 0 y) o.marked)
-  alone_commit g u k none v =
+  alone_commit s g u k none v =
       by_step n m b i o t u.holds u.told (right_with (set o.rows 0 y) o.marked)
-      (λ log bs x rd. subst (λ (c : Row). Steps o t (right_with (set o.rows 0 c) o.marked)) (sym v) (lone_commits o t (goes_first o t g) k g.unmarked none) log bs x)
+      (λ log bs x rd. subst (λ (c : Row). Steps o t (right_with (set o.rows 0 c) o.marked)) (sym v)
+      (lone_commits o t (goes_first p o t s.first g) k (sym s.first.mark ∙ g.unmarked) (sym s.next ∙ none)) log bs x)
 
   -- A begin where no batch is open.
-  pub alone_begin : TellsBatch n m b i t → t.kind ≡ 1 → (row_at o.rows 0).batch ≡ 0 → y ≡ new_row t.own → Turns n m b i o (right_with (set o.rows 0 y) o.marked)
-  alone_begin u k e v =
+  pub alone_begin : SameFirst p o → TellsBatch n m b i t → t.kind ≡ 1 → (row_at p.rows 0).batch ≡ 0 → y ≡ new_row t.own
+      → Turns n m b i o (right_with (set o.rows 0 y) o.marked)
+  alone_begin s u k e v =
       by_step n m b i o t u.holds u.told (right_with (set o.rows 0 y) o.marked)
-      (λ log bs x rd. begun_row o t k 0 (first_place o.rows 0 e) y v (omega arith) (λ q. absurd (omega arith)) log bs x)
+      (λ log bs x rd. begun_row o t k 0 (first_place o.rows 0 (ap (λ (r : Row). r.batch) (sym s.row) ∙ e)) y v (omega arith) (λ q. absurd (omega arith)) log bs x)
 
 -- The row of no batch, field by field.
 pub zero_row : (r : Row) → (r.batch ≡ 0) × ((r.last ≡ 0) × ((r.undo ≡ 0) × (r.pending ≡ 0))) → r ≡ no_row
@@ -87,5 +105,6 @@ zero_row r e =
     ∙ ap₂ (λ (x y : ℕ). record { batch = 0; last = 0; undo = x; pending = y }) e.1.1.0 e.1.1.1
 
 -- A change of the tree.
-pub alone_change : (n m : ℕ) (b : List ℕ) (i : ℕ) (o : Batches) → Turns n m b i o (Some o) → Turns n m b i o (right_with (set o.rows 0 (row_at o.rows 0)) o.marked)
-alone_change n m b i o = subst (λ (y : List Row). Turns n m b i o (right_with y o.marked)) (sym (same_first o.rows))
+pub alone_change : (n m : ℕ) (b : List ℕ) (i : ℕ) (p o : Batches) → SameFirst p o → Turns n m b i o (Some o)
+    → Turns n m b i o (right_with (set o.rows 0 (row_at p.rows 0)) o.marked)
+alone_change n m b i p o s = subst (λ (c : List Row). Turns n m b i o (right_with c o.marked)) (sym (set_first o.rows (row_at p.rows 0) s.row))

@@ -176,8 +176,8 @@ module _ (n m : ℕ) (b : List ℕ) (i : ℕ) where
         let k : t.kind ≡ be32 lent 0 / 268435456 = ap (λ (y : Told). y.kind) e in
         record { holds = in_slot u.plain; told = e ∙ ap told_by slot; least = omega (arith, k, u.least); most = omega (arith, k, u.most) }
 
-    pub tells_batch : Bytes b → 0 < n → BeginOrCommit (i + 1) lent → TellsBatch n m b i t
-    tells_batch w some u =
+    pub tells_batch : Bytes b → Plain n (i + 1) lent → 0 < be32 lent 0 / 268435456 → TellsBatch n m b i t
+    tells_batch w u least =
         let k : t.kind ≡ be32 lent 0 / 268435456 = ap (λ (y : Told). y.kind) e in
         let few : be32 lent 0 < 2 ^ 32 = be32_lt lent 0 (bytes_take (slot_size * i + slot_size - slot_size * i) (drop (slot_size * i) b) (bytes_drop b (slot_size * i) w)) in
-        record { holds = in_slot (u.plain n some); told = e ∙ ap told_by slot; least = omega (arith, k, u.least); small = omega (arith, k, few) }
+        record { holds = in_slot u; told = e ∙ ap told_by slot; least = omega (arith, k, least); small = omega (arith, k, few) }

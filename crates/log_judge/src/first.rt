@@ -3,7 +3,8 @@ ghost use Rattle.std.specs.Prelude.{◌≡◌, true, false, ◌≤◌, ◌<◌, 
 ghost use Rattle.def_layout.specs.Sizes.{most_slots};
 ghost use Rattle.def_layout.specs.Desks.{row_at};
 ghost use Rattle.law_bytes.specs.AreaSizes.{HasSlots};
-ghost use Rattle.log_judge.specs.Alone.{Alone, GoesOnFirst};
+ghost use Rattle.log_chain.specs.declared.Batches as chain;
+ghost use Rattle.log_judge.specs.Alone.{Alone, GoesOnFirst, SameFirst, SameFront};
 
 use super::slots::{batch_at, is_change, update_at};
 use codec_desk::new_row;
@@ -21,7 +22,7 @@ fn goes_on_first(batches: &Batches, t: Told) -> bool
 // The first row after an update of its batch, at slot i.
 fn first_update(log: &[u8], m: usize, n: usize, i: usize, batches: &Batches) -> Option<Row>
     requires { HasSlots m log.now × (i < m) × ((row_at batches.now.rows 0).pending ≤ most_slots) }
-    ensures { Alone n m log.now i batches.now result }
+    ensures { (o : chain.Batches) → SameFirst batches.now o → Alone n m log.now i o result }
 {
     let t = update_at(log, m, n, i)?;
     if !goes_on_first(batches, t) {
@@ -33,7 +34,7 @@ fn first_update(log: &[u8], m: usize, n: usize, i: usize, batches: &Batches) -> 
 // The first row after a begin where no batch is open, or the commit of the only one.
 fn first_batch(log: &[u8], m: usize, n: usize, i: usize, batches: &Batches) -> Option<Row>
     requires { HasSlots m log.now × (i < m) }
-    ensures { Alone n m log.now i batches.now result }
+    ensures { (o : chain.Batches) → SameFront batches.now o → Alone n m log.now i o result }
 {
     let t = batch_at(log, m, n, i)?;
     let first = batches.rows[0].batch;
@@ -57,10 +58,10 @@ fn first_batch(log: &[u8], m: usize, n: usize, i: usize, batches: &Batches) -> O
 }
 
 // The first row after slot i, where that leaves the other rows and all marks as they are: an update of its batch, a change of the tree, a begin or a
-// commit. None says nothing of the slot.
+// commit. It is right of all batches that are alike in the first row, its mark and the second row's batch. None says nothing of the slot.
 pub fn alone(log: &[u8], m: usize, n: usize, i: usize, batches: &Batches) -> Option<Row>
     requires { HasSlots m log.now × (i < m) × ((row_at batches.now.rows 0).pending ≤ most_slots) }
-    ensures { Alone n m log.now i batches.now result }
+    ensures { (o : chain.Batches) → SameFront batches.now o → Alone n m log.now i o result }
 {
     if let Some(updated) = first_update(log, m, n, i, batches) {
         return Some(updated);

@@ -3,6 +3,7 @@ use native.Mathlib.Omega.{arith}
 use mathlib.Core.Path.{sym, ◌∙◌}
 use Rattle.log_chain.specs.Shown.{shows_none}
 use Rattle.log_judge.specs.Updates.{plain_full}
+use Rattle.log_judge.specs.Alone.{same_front}
 use Rattle.log_judge.specs.Turns.{update_halts, update_goes}
 use Rattle.log_judge.specs.Judging.{going_start, going_low, going_on, going_off, ends_empty, ends_all}
 use Rattle.log_judge.proofs.judge_log.Goals as goal
@@ -21,7 +22,7 @@ pub loop-i-preserved-in-Some : goal.loop-i-preserved-in-Some
 loop-i-preserved-in-Some c =
     let a = c.args in
     let l = c.loop-i in
-    going_on a.n a.m a.log.now l.i l.batches l.invariant c.loop-i-test.true _ c.in-Some.ensures
+    going_on a.n a.m a.log.now l.i l.batches l.invariant c.loop-i-test.true _ (c.in-Some.ensures l.batches (same_front l.batches))
 
 pub returns-in_err-p : goal.returns-in_err-p
 returns-in_err-p c =

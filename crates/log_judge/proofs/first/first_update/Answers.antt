@@ -7,6 +7,6 @@ pub longer-requires : goal.longer-requires
 longer-requires c = c.requires.2
 
 pub returns : goal.returns
-returns c =
+returns c o s =
     let a = c.args in
-    alone_update a.n a.m a.log.now a.i _ a.batches.now _ (c.goes_on_first.ensures (not-false _ c.if-not-goes_on_first.false-raw)) c.in_ok-t.ensures c.longer.ensures
+    alone_update a.n a.m a.log.now a.i _ a.batches.now o _ s (c.goes_on_first.ensures (not-false _ c.if-not-goes_on_first.false-raw)) c.in_ok-t.ensures c.longer.ensures
