@@ -5,6 +5,7 @@ import re
 
 INTERFACE = b'--@ interface '  # the line of a checked module that lists its names
 TEST = 'if-'
+JOIN = 'By-'  # a step where paths meet: it repeats their tests, and has these in its own name
 TOKEN = re.compile(r'[^\s(){}\[\].,;:"`]+')
 
 
@@ -27,7 +28,7 @@ def tests(folder, crate, function):
     found = {}
     for name in interface(folder, crate, function)['globals']:
         step, _, field = name.get('name', '').partition('.')
-        if field.startswith(TEST) and 'fieldfn' in (name.get('kernel') or {}):
+        if field.startswith(TEST) and not step.startswith(JOIN) and 'fieldfn' in (name.get('kernel') or {}):
             found[step, name['kind']['index']] = field
     return found
 
@@ -43,7 +44,7 @@ def turn(folder, function, other):
     """Turns the names of tests in the files of a function's proof, also in the names of goals behind them."""
     after = {name.removeprefix(TEST): to.removeprefix(TEST) for name, to in other.items()}
     words = '|'.join(re.escape(word) for word in sorted(after, key=len, reverse=True))
-    part = re.compile(rf'(?<![^-])(if|then|else)-({words})(?![^-])')
+    part = re.compile(rf'(?<![^-+])(if|then|else)-({words})(?![^-+])')
 
     # What is known of a test `!x` has a second name, which that of a test `x` has not.
     plain = '|'.join(re.escape(to) for name, to in other.items() if name.startswith(TEST + 'not-') and not to.startswith(TEST + 'not-'))

@@ -1,8 +1,8 @@
 -- THE OPEN BATCHES SETTLED: from an image that was judged and redone to the run that a restart leaves, or to its 17 or 18.
 use Prim.Native.Nat.{ℕ, suc, ◌≤◌}
-use Rattle.std.specs.Prelude.{◌≡◌, refl, Bool, false, Some, None}
+use Rattle.std.specs.Prelude.{◌≡◌, refl, ◌⊎◌, Bool, false, Some, None}
 use Rattle.std.proofs.Math.Path.{sym, ap, subst}
-use Rattle.std.proofs.Common.{◌∙◌, ⊎_elim, arith}
+use Rattle.std.proofs.Common.{◌∙◌, inl, inr, arith}
 use Rattle.std.proofs.Math.Option.{none, some}
 use mathlib.Core.List.{List, map}
 use Rattle.std.proofs.Math.ListN.{length}
@@ -10,8 +10,8 @@ use Rattle.def_layout.specs.declared.Row.{Row}
 use Rattle.def_layout.specs.Desks.{eight_rows}
 use Rattle.def_model.specs.declared.Refusal.{Refusal}
 use Rattle.def_model.specs.declared.Refusal.TheVariants.{SlotsShort, PagesShort}
-use Rattle.def_model.specs.Areas.{Side}
-use Rattle.def_model.specs.Answers.{first_broken}
+use Rattle.def_model.specs.Areas.{Side, Areas}
+use Rattle.def_model.specs.Answers.{refusal_number, first_broken}
 use Rattle.def_model.specs.Batches.{open_batches, row_of}
 use Rattle.def_model.specs.Update.{Run}
 use Rattle.def_model.specs.Restart.{redone, redone_pages, settle, restarted, restart_checks}
@@ -20,14 +20,25 @@ use Rattle.law_bytes.specs.Eights.{eight}
 use Rattle.log_chain.specs.Shown.{marks_of}
 use Rattle.law_areas.specs.Logs.{HoldsLog, AllFit, read_log_length}
 use Rattle.theory_room.specs.Reasons.{settle_longer}
-use Rattle.theory_room.specs.Restarting.{restarted_within}
+use Rattle.theory_room.specs.Restarting.{restarted_cases, restarted_within}
 use Rattle.tree_write.specs.declared.Run as run
-use Rattle.tree_write.specs.Shows.{Shows, Stops}
+use Rattle.tree_write.specs.Shows.{Shows, Stops, stops_not_zero}
 use Rattle.theory_sound.specs.RestartDesk.{restart_accepts}
 use Rattle.sound_register.specs.Standing.{log_in}
 use Rattle.call_restart.specs.Checks.{slots_first, pages_first}
 use Rattle.call_restart.specs.Image.{image, over, Refuses, Image}
 use Rattle.call_restart.specs.Redoing.{Ready}
+
+-- 17 and 18 are the numbers of one refusal each.
+slots_number : (why : Refusal) → refusal_number why ≡ 17 → why ≡ SlotsShort
+unfolding refusal_number
+slots_number SlotsShort e = refl
+slots_number _ e = absurd (omega (arith, e))
+
+pages_number : (why : Refusal) → refusal_number why ≡ 18 → why ≡ PagesShort
+unfolding refusal_number
+pages_number PagesShort e = refl
+pages_number _ e = absurd (omega (arith, e))
 
 -- What the settling says, of whatever run the areas show.
 abbrev pub SettleSays : (n m : ℕ) (wp wl wp' wl' : List ℕ) (t : run.Run) (rs : List Row) (ms : List Bool) (u : run.Run) → Type 0
@@ -74,10 +85,18 @@ module _ {n m : ℕ} {sp sl wp wl wp' wl' : List ℕ} {rs : List Row} {before : 
   -- Refused for the reason that it stopped for, 17 or 18; or not, where it did not stop.
   pub stop_refuse : (why : Refusal) → u.stop ≡ Some why → Refuses sp sl why
   unfolding redone_pages
-  stop_refuse why e w =
-      ⊎_elim (λ (q : (why ≡ SlotsShort) × ((restarted (over w sp sl)).stop ≡ 17)). subst (Breaks w) (sym q.0) (slots_first (over w sp sl) k.layouts k.log y.fits y.tree y.pending q.1))
-      (λ (q : (why ≡ PagesShort) × ((restarted (over w sp sl)).stop ≡ 18)). subst (Breaks w) (sym q.0) (pages_first (over w sp sl) k.layouts k.log y.fits y.tree y.pending q.1))
-      (subst (λ o. Stops o (restarted (over w sp sl)).stop) e (settled_shows w).stop)
+  stop_refuse why e w = go (restarted_cases a)
+    where
+      a : Areas
+      a = over w sp sl
+
+      is : (restarted a).stop ≡ refusal_number why
+      is = subst (λ o. Stops o (restarted a).stop) e (settled_shows w).stop
+
+      go : ((restarted a).stop ≡ 0) ⊎ (((restarted a).stop ≡ 17) ⊎ ((restarted a).stop ≡ 18)) → Breaks w why
+      go (inl q) = absurd (stops_not_zero (Some why) _ refl is q)
+      go (inr (inl q)) = subst (Breaks w) (sym (slots_number why (sym is ∙ q))) (slots_first a k.layouts k.log y.fits y.tree y.pending q)
+      go (inr (inr q)) = subst (Breaks w) (sym (pages_number why (sym is ∙ q))) (pages_first a k.layouts k.log y.fits y.tree y.pending q)
 
   pub none_refuse : u.stop ≡ None → (w : Side) → first_broken (restart_checks (over w sp sl)) ≡ none
   unfolding redone_pages

@@ -1,7 +1,5 @@
 -- What fetch and next make of the first entry that a page has, and the way down to the leaf.
 use Rattle.std.specs.Prelude.{◌≡◌, refl, List, [], ◌∷◌, ltb, eqb}
-use Rattle.std.specs.Prelude as program
-use Rattle.std.specs.Option.{UnwrapsOrElse}
 use Rattle.std.proofs.Math.Path.{ap, sym}
 use Rattle.std.proofs.Common.{◌∙◌, sub-one, arith}
 use Prim.Native.Nat.{ℕ, zero, suc, ◌-◌, ◌<◌, ◌≤◌}
@@ -15,7 +13,7 @@ use Rattle.def_layout.specs.Pages.{Page, at}
 use Rattle.codec_page.specs.declared.Page as page
 use Rattle.codec_page.specs.Typed.{typed}
 use Rattle.tree_lookup.specs.declared.Node.{Node}
-use Rattle.tree_lookup.specs.Answers.{shows, option_of}
+use Rattle.tree_lookup.specs.Answers.{shows}
 use Rattle.def_model.specs.Lookup.{entry_or, entry_for, covering, leaf_for, leaf_of, fetched, first_of, or_after, next_by, next_above}
 
 -- ---- by the first entry of a page whose key is not below k
@@ -44,10 +42,13 @@ module _ (k : ℕ) (es : List Entry) where
   look_off f e q = sym (look_seek k es ∙ ap (looked k) (sym e) ∙ rw (neq_false (λ (r : k ≡ f.key). q (sym r))))
 
   -- The first entry not below k leads to it, or none does.
-  pub leads : (o : program.Option Entry) (r : Entry) (P : Entry → Type 0) → ((d : Entry) → P d → d ≡ no_entry) → option_of o ≡ seek k es → UnwrapsOrElse o P r → r ≡ entry_for k es
+  pub leads_none : none ≡ seek k es → no_entry ≡ entry_for k es
   unfolding entry_or
-  leads program.None r P is e h = is r h ∙ ap entry_or e
-  leads (program.Some f) r P is e h = h ∙ ap entry_or e
+  leads_none e = ap entry_or e
+
+  pub leads_to : (f : Entry) → some f ≡ seek k es → f ≡ entry_for k es
+  unfolding entry_or
+  leads_to f e = ap entry_or e
 
 -- ---- the way down
 

@@ -59,7 +59,10 @@ fn look_in(x: Page, k: u32) -> Option<u32>
 pub fn entry_for(x: Page, k: u32) -> Entry
     ensures { result ≡ entry_for k (typed x).entries }
 {
-    seek_in(x, k).unwrap_or_default()
+    match seek_in(x, k) {
+        Some(e) => e,
+        None => Entry { key: 0, val: 0 },
+    }
 }
 
 // A page's first entry.

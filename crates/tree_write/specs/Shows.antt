@@ -8,7 +8,8 @@ use Rattle.def_layout.specs.Records.{Rec, Kind, batch_row}
 use Rattle.def_layout.specs.RecordBytes.{record_bytes, slot_bytes}
 use Rattle.def_layout.specs.Sizes.{slot_size}
 use Rattle.def_model.specs.declared.Refusal.{Refusal}
-use Rattle.def_model.specs.declared.Refusal.TheVariants.{SlotsShort, PagesShort}
+use Rattle.def_model.specs.declared.Refusal.TheVariants.{Lengths, SlotsShort}
+use Rattle.def_model.specs.Answers.{refusal_number}
 use Rattle.def_model.specs.Log.{slots_from}
 use Rattle.def_model.specs.Change.{changes, shape}
 use Rattle.def_model.specs.Redo.{when_named, places, redo_places, redo_record, redo_lefts}
@@ -26,7 +27,7 @@ use Rattle.tree_write.specs.declared.Run as program
 -- What a program's run says of why it stopped, and the number that the definition's run has for it.
 abbrev pub Stops : Option Refusal → ℕ → Type 0
 Stops None n = n ≡ 0
-Stops (Some why) n = ((why ≡ SlotsShort) × (n ≡ 17)) ⊎ ((why ≡ PagesShort) × (n ≡ 18))
+Stops (Some why) n = n ≡ refusal_number why
 
 pub record Shows (n m : ℕ) (wp wl : List ℕ) (t : program.Run) (s : Run) : Type 0 where
   pub pages : Pages n wp s.pages s.lefts
@@ -48,9 +49,15 @@ at_stop t why = record { logged = t.logged; stop = Some why }
 abbrev pub Halted : ℕ → program.Run → program.Run → Type 0
 Halted m t u = (u ≡ t) ⊎ ((t.stop ≡ None) × (m ≤ t.logged) × (u ≡ at_stop t SlotsShort))
 
+-- No refusal has number 0.
+number_positive : (why : Refusal) → 0 < refusal_number why
+unfolding refusal_number
+number_positive Lengths = omega arith
+number_positive _ = omega arith
+
 pub stops_not_zero : (o : Option Refusal) (n : ℕ) → IsSome o → Stops o n → n ≡ 0 → ⊥
 stops_not_zero None n e h z = cc
-stops_not_zero (Some why) n e h z = elim h [ inl q ↦ omega (arith, q.1, z) | inr q ↦ omega (arith, q.1, z) ]
+stops_not_zero (Some why) n e h z = omega (arith, number_positive why, h, z)
 
 module _ {n m : ℕ} {wp wl : List ℕ} {t : program.Run} {s : Run} (h : Shows n m wp wl t s) where
   pub shows_going : t.stop ≡ None → going s ≡ true
@@ -65,9 +72,9 @@ module _ {n m : ℕ} {wp wl : List ℕ} {t : program.Run} {s : Run} (h : Shows n
   pub shows_full : m ≤ t.logged → ltb 0 s.room ≡ false
   shows_full l = lt_false 0 s.room (omega (arith, h.room))
 
-  pub shows_stopped : (why : Refusal) (number : ℕ) → Stops (Some why) number → Shows n m wp wl (at_stop t why) (stopped number s)
-  shows_stopped why number e =
-      record { pages = h.pages; log = h.log; size = h.size; logged = h.logged; due = h.due; room = h.room; stop = e }
+  pub shows_stopped : (why : Refusal) → Shows n m wp wl (at_stop t why) (stopped (refusal_number why) s)
+  shows_stopped why =
+      record { pages = h.pages; log = h.log; size = h.size; logged = h.logged; due = h.due; room = h.room; stop = refl }
 
   -- A run that has stopped writes nothing more.
   pub emit_stuck : (r : Rec) → IsSome t.stop → Shows n m wp wl t (emit r s)
@@ -76,8 +83,8 @@ module _ {n m : ℕ} {wp wl : List ℕ} {t : program.Run} {s : Run} (h : Shows n
 
   -- There is no slot for it.
   pub emit_full : (r : Rec) → t.stop ≡ None → m ≤ t.logged → Shows n m wp wl (at_stop t SlotsShort) (emit r s)
-  unfolding emit emit_by
-  emit_full r e l = subst (Shows n m wp wl (at_stop t SlotsShort)) (sym (rw (shows_going e, shows_full l))) (shows_stopped SlotsShort 17 (inl (refl, refl)))
+  unfolding emit emit_by refusal_number
+  emit_full r e l = subst (Shows n m wp wl (at_stop t SlotsShort)) (sym (rw (shows_going e, shows_full l))) (shows_stopped SlotsShort)
 
   -- One or the other.
   pub emit_halted : (u : program.Run) (r : Rec) → IsSome u.stop → Halted m t u → Shows n m wp wl u (emit r s)

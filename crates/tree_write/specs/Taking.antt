@@ -10,6 +10,7 @@ use Rattle.def_layout.specs.declared.page.PageKind.TheVariants.{Map}
 use Rattle.def_layout.specs.Pages.{Page, at}
 use Rattle.def_layout.specs.Records.{Rec}
 use Rattle.def_model.specs.declared.Refusal.TheVariants.{PagesShort}
+use Rattle.def_model.specs.Answers.{refusal_number}
 use Rattle.def_model.specs.Update.{Run, going, emit, highest, fresh, taking_by, emit_taking}
 use Rattle.codec_page.specs.declared.Page as program
 use Rattle.codec_page.specs.Typed.{typed, used_marks_node}
@@ -80,7 +81,7 @@ module _ (s : Run) (f : ℕ → Rec) (near b : ℕ) (r : Rec) (e : b ≡ fresh s
         subst₂ (Shows n m wp wl) (sym q.2) (sym (by_tests none true false (shows_going h q.0) (shows_full h q.1))) (emit_full h r q.0 q.1)
 
     pub taking_none : t.stop ≡ None → t.logged < m → Shows n m wp wl (at_stop t PagesShort) (emit_taking f near s)
-    unfolding taking_by
+    unfolding taking_by refusal_number
     taking_none st l =
         subst (Shows n m wp wl (at_stop t PagesShort)) (sym (by_tests none true true (shows_going h st) (shows_slot h l)))
-        (shows_stopped h PagesShort 18 (inr (refl, refl)))
+        (shows_stopped h PagesShort)

@@ -1,7 +1,9 @@
--- `entry_for`: the first entry not below k, or the default one, which is no entry.
-use borrow.Author.Rules.{rules}
-use Rattle.tree_lookup.specs.Descent.{leads}
+-- `entry_for`: the first entry not below k, or none.
+use Rattle.tree_lookup.specs.Descent.{leads_none, leads_to}
 use Rattle.tree_lookup.proofs.entry_for.Goals as goal
 
-pub returns : goal.returns
-returns c = leads c.args.k _ c.seek_in.result c.unwrap_or_default.result _ (λ d h. search rules) c.seek_in.ensures c.unwrap_or_default.ensures
+pub returns-in-Some : goal.returns-in-Some
+returns-in-Some c = leads_to _ _ _ c.in-Some.ensures
+
+pub returns-in-None : goal.returns-in-None
+returns-in-None c = leads_none _ _ c.in-None.ensures
