@@ -12,7 +12,7 @@ pub store_one-requires : goal.store_one-requires
 store_one-requires c =
     let a = c.args in
     let l = c.loop-k in (
-      omega (arith, c.loop-k-test.true, c.min-n.ensures),
+      omega arith,
       fits_still a.s a.wp.now a.sp.now a.wl.now a.sl.now l.sp l.sl l.invariant.0 l.invariant.1 c.requires,
       record { start = lent a.wp.now a.sp.now a.wl.now a.sl.now; leads = l.invariant.2 },
     )
@@ -24,12 +24,11 @@ loop-k-preserved c =
     let o = c.store_one in (
       o.auto.sp ∙ l.invariant.0,
       o.auto.sl ∙ l.invariant.1,
-      λ ts h. one_more a.s l.k a.wp.now a.wl.now ts h (omega (arith, c.loop-k-test.true, c.min-n.ensures)) _ _ _ (l.invariant.2 ts h) (o.ensures ts h),
+      λ ts h. one_more a.s l.k a.wp.now a.wl.now ts h (omega arith) _ _ _ (l.invariant.2 ts h) (o.ensures ts h),
     )
 
 pub returns : goal.returns
 returns c ts h =
     let a = c.args in
     let l = c.loop-k in
-    let n = c.min-n in
-    all_made a.s a.wp.now a.wl.now ts h a.budget n.result l.k n.ensures (omega arith) (omega (arith, c.loop-k-test.false)) _ _ (l.invariant.2 ts h)
+    all_made a.s a.wp.now a.wl.now ts h a.budget l.k l.k (omega arith) (omega arith) (omega arith) _ _ (l.invariant.2 ts h)
