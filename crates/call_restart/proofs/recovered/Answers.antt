@@ -1,4 +1,5 @@
 -- `recovered`: the image is refused, or settled; the settling stops, or is stored.
+use borrow.Author.Rules.{rules}
 use mathlib.Core.Path.{refl, ◌∙◌}
 use native.Mathlib.Omega.{arith}
 use Rattle.std.specs.Prelude.{Ok, Err}
@@ -32,7 +33,7 @@ pub returns-in-Some : goal.returns-in-Some
 returns-in-Some c =
     let k = c.in_ok-said.ensures in
     let y = copy_redone _ (Ok c.in_ok-count.count) c.copy.ensures k c.in_ok-count.ensures.pages in
-    (stop_refuse k y c.in_ok-count.ensures.log _ c.at.ensures c.settle-u.ensures _ c.in-Some.is, refl)
+    (stop_refuse k y c.in_ok-count.ensures.log _ c.at.ensures c.settle-u.ensures _ (search rules), refl)
 
 pub relink-requires : goal.relink-requires
 relink-requires c = let q = c.requires in (c.settle-u.auto.wp ∙ c.redone.auto.wp ∙ c.copy.auto.dst ∙ q.0.0, q.0.1)
@@ -51,4 +52,4 @@ pub returns : goal.returns
 returns c =
     let k = c.in_ok-said.ensures in
     let y = copy_redone _ (Ok c.in_ok-count.count) c.copy.ensures k c.in_ok-count.ensures.pages in
-    done_so k y c.in_ok-count.ensures.log _ c.at.ensures c.settle-u.ensures c.relink.ensures _ c.in_default.is c.used_rows-ended.ensures.0 c.store_slots.ensures refl c.idle_desk.ensures
+    done_so k y c.in_ok-count.ensures.log _ c.at.ensures c.settle-u.ensures c.relink.ensures _ (search rules) c.used_rows-ended.ensures.0 c.store_slots.ensures refl c.idle_desk.ensures

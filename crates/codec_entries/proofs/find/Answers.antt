@@ -1,7 +1,6 @@
 -- `find`: no entry before i is the one, so the place is i and the place in the rest.
 use borrow.Author.Rules.{rules}
 use native.Mathlib.Omega.{arith}
-use mathlib.Core.Path.{◌≡◌, sym, ◌∙◌}
 use Rattle.codec_entries.specs.Turns.{find_more, find_here, find_none}
 use Rattle.codec_entries.proofs.find.Goals as goal
 
@@ -12,7 +11,7 @@ pub returns-then-es-place : goal.returns-then-es-place
 returns-then-es-place c =
     let a = c.args in
     let l = c.loop-place in
-    (sym (find_here a.es a.n a.k l.place _ (omega arith) c.if-es-place.true l.invariant.1), omega arith)
+    (omega (arith, find_here a.es a.n a.k l.place _ (omega arith) c.if-es-place.true l.invariant.1), omega arith)
 
 pub loop-place-preserved : goal.loop-place-preserved
 loop-place-preserved c =
@@ -24,5 +23,4 @@ pub returns : goal.returns
 returns c =
     let a = c.args in
     let l = c.loop-place in
-    let e : a.n ≡ l.place = omega arith in
-    (e ∙ sym (find_none a.es a.n a.k l.place _ (omega arith) l.invariant.1), omega arith)
+    (omega (arith, find_none a.es a.n a.k l.place _ (omega arith) l.invariant.1), omega arith)

@@ -1,4 +1,4 @@
--- `write_entries`: after i turns the first i of the 14 are written, those past the last as zeros.
+-- `write_entries`: after i turns the first i of the 14 are written, those past the last as zeros. The index is taken by its value, not by the text that gives it.
 use borrow.Author.Rules.{rules}
 use native.Mathlib.Omega.{arith}
 use Prim.Native.Nat.{◌+◌, ◌*◌}
@@ -20,7 +20,7 @@ loop-i-preserved c =
       search rules,
       search rules,
       c.write_entry.ensures
-          ∙ ap (λ e. patch l.b (a.from + 8 * l.i) (entry_bytes e)) c.entry_in.ensures
+          ∙ ap (λ e. patch l.b (a.from + 8 * l.i) (entry_bytes e)) (c.entry_in.ensures ∙ ap (entry_at (used a.n a.es)) (search rules))
           ∙ chunks_more a.b.now l.b a.from l.i 8 _ (λ i. entry_bytes_length (entry_at (used a.n a.es) i)) (omega arith) l.invariant.2,
     )
 

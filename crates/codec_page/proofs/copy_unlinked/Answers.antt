@@ -1,5 +1,6 @@
 -- `copy_unlinked`: of a leaf the first word is written again.
-use mathlib.Core.Path.{sym, ◌∙◌, ap}
+use borrow.Author.Rules.{rules}
+use mathlib.Core.Path.{◌∙◌, ap}
 use mathlib.Core.List.{List}
 use Prim.Native.Nat.{ℕ}
 use Rattle.def_layout.specs.Numbers.{put32}
@@ -14,10 +15,10 @@ returns-then-is_leaf c =
     c.set32.ensures
     ∙ ap (λ (s : List ℕ). patch s 0 (put32 c.unlinked.result)) c.copy.ensures
     ∙ ap (λ (x : ℕ). patch a.src.now 0 (put32 x)) c.unlinked.ensures
-    ∙ leaf_copied a.src.now (λ i. (c.shared_slice_known-1.given i).fits) q.1 _ c.get32-w.ensures (sym c.is_leaf.ensures ∙ c.if-is_leaf.true)
+    ∙ leaf_copied a.src.now (λ i. (c.shared_slice_known-1.given i).fits) q.1 _ c.get32-w.ensures (search rules)
 
 pub returns-else-is_leaf : goal.returns-else-is_leaf
 returns-else-is_leaf c =
     let a = c.args in
     let q = c.requires in
-    c.copy.ensures ∙ other_copied a.src.now (λ i. (c.shared_slice_known-1.given i).fits) q.1 _ c.get32-w.ensures (sym c.is_leaf.ensures ∙ c.if-is_leaf.false)
+    c.copy.ensures ∙ other_copied a.src.now (λ i. (c.shared_slice_known-1.given i).fits) q.1 _ c.get32-w.ensures (search rules)

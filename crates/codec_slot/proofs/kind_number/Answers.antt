@@ -6,7 +6,7 @@ use mathlib.Core.Path.{sym}
 use Rattle.codec_slot.proofs.kind_number.Goals as goal
 
 pub returns-in-1-to-15 : goal.returns-in-1-to-15
-returns-in-1-to-15 c = (sym (number_back c.args.k (omega arith) (omega arith)), omega arith, omega arith)
+returns-in-1-to-15 c = (omega (arith, number_back c.args.k (omega arith) (omega arith)), omega arith, omega arith)
 
 pub returns-in_default : goal.returns-in_default
 returns-in_default c = (sym (number_zero _ (omega arith)), search rules, search rules)

@@ -20,4 +20,4 @@ returns c =
     let a = c.args in
     let l = c.loop-row in
     let h : length a.rows ≡ 8 = search rules in
-    total_end a.rows l.row-index l.t (omega (arith, h, c.loop-row-test.false)) l.invariant.1
+    omega (arith, total_end a.rows l.row-index l.t (omega (arith, h, c.loop-row-test.false)) l.invariant.1)

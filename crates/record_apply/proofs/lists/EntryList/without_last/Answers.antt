@@ -1,7 +1,7 @@
--- `without_last`: the first of them.
+-- `without_last`: the first of them. How many they are is taken by its value, not by the text that gives it.
 use borrow.Author.Rules.{rules}
 use native.Mathlib.Omega.{arith}
-use Prim.Native.Nat.{◌-◌}
+use Prim.Native.Nat.{ℕ, ◌-◌}
 use mathlib.Core.Path.{ap, ◌∙◌}
 use Rattle.law_bytes.specs.EntryBytes.{used}
 use Rattle.codec_entries.specs.Arrays.{used_take}
@@ -10,4 +10,4 @@ use Rattle.record_apply.proofs.lists.EntryList.without_last.Goals as goal
 pub returns : goal.returns
 returns c =
     let l = c.args.self in
-    (ap (λ k. used k l.entries) c.saturating_sub.ensures ∙ used_take l.entries (l.count - c.args.m) l.count (omega arith), search rules)
+    (ap (λ (k : ℕ). used k l.entries) {y = l.count - c.args.m} (omega arith) ∙ used_take l.entries (l.count - c.args.m) l.count (omega arith), search rules)
